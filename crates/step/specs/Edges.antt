@@ -1,89 +1,114 @@
--- The twelve edges of document 01, computed on the definitions.
-use mathlib.Core.Path.{_≡_, refl}
-use mathlib.Core.Bool.{Bool, true, false}
+-- The twelve edges (document 01, "Twelve edges to prove"): each from the table that it names, with the whole answer and the whole
+-- table after it, as one list under one statement. `proofs/Edges.antt` computes them from the definitions.
+-- Assumes nothing.
+use mathlib.Core.Path.{_≡_}
 use mathlib.Core.List.{List, [], _∷_, _++_}
-use Prim.Native.Nat.{ℕ, zero, suc, _+_}
-use lib.Dec.{T, eqb}
-use lib.ListN.{replicate, set, getD}
+use Prim.Native.Nat.{ℕ, zero, suc}
+use lib.ListN.{replicate, set}
 use Rattle.table.specs.declared.Record.{Record}
 use Rattle.table.specs.declared.Table.{Table}
 use Rattle.table.specs.declared.State.{State}
-use Rattle.table.specs.declared.State.the-variants.{Free, ParkWaiting, LineWaiting, Requested, RemoteRequested, HandedOver}
-use Rattle.table.specs.Search.{both, sameCall}
+use Rattle.table.specs.declared.State.the-variants.{ParkWaiting, LineWaiting, Requested, RemoteRequested, HandedOver}
+use Rattle.table.specs.Places.{noConnection, noCall, freeRecord, emptyTable}
 use Rattle.step.specs.declared.Event.{Event}
 use Rattle.step.specs.declared.Answer.{Answer}
-use Rattle.step.specs.Turn.{freeRecord, noConnection, noInvoke, stay}
+use Rattle.step.specs.Aim.{indexOf}
 use Rattle.step.specs.Step.{stepOf}
 
-abbrev pub emptyTable : Table
-emptyTable = record { places = replicate 96 freeRecord }
-
--- the call that ends in the octet n
+-- the call whose last octet is n
 abbrev pub callOf : ℕ → List ℕ
 callOf n = replicate 15 0 ++ (n ∷ [])
 
--- the table with one record at an index
-abbrev pub with : ℕ → Record → Table
-with i r = record { places = set (emptyTable .places) i r }
-
--- k records in state 1, with calls k, k - 1, .. 1
-abbrev pub parked : ℕ → List Record
-parked zero = []
-parked (suc k) = stay ParkWaiting (callOf (suc k)) ∷ parked k
-
-abbrev pub fullTable : Table
-fullTable = record { places = parked 64 ++ replicate 32 freeRecord }
-
-abbrev pub event : ℕ → ℕ → ℕ → ℕ → ℕ → Event
-event k n p i m = record { kind = k; call = callOf n; place = record { 0 = p }; choice = 0; connection = noConnection; invoke = record { 0 = i }; timer = m }
-
+-- a record of call 1: its state, connection and count
 abbrev pub held : State → ℕ → ℕ → Record
 held s c n = record { state = s; call = callOf 1; connection = record { 0 = c }; count = record { 0 = n } }
+
+-- the table with one occupied place
+abbrev pub with : ℕ → Record → Table
+with place r = record { places = set (emptyTable .places) (indexOf place) r }
+
+-- k parked calls: k, k - 1, .. 1
+abbrev pub parked : ℕ → List Record
+parked zero = []
+parked (suc k) = record { state = ParkWaiting; call = callOf (suc k); connection = noConnection; count = record { 0 = 0 } } ∷ parked k
+
+abbrev pub allTaken : Table
+allTaken = record { places = parked 64 ++ replicate 32 freeRecord }
+
+-- kind, call, place, invoke and timer; choice 0 and connection 0
+abbrev pub event : ℕ → ℕ → ℕ → ℕ → ℕ → Event
+event kind n place invoke timer = record {
+  kind = kind;
+  call = callOf n;
+  place = record { 0 = place };
+  choice = 0;
+  connection = noConnection;
+  invoke = record { 0 = invoke };
+  timer = timer;
+}
+
+-- the answer line's ten fields, in its order
+abbrev pub answer : ℕ → List ℕ → ℕ → ℕ → ℕ → ℕ → ℕ → ℕ → ℕ → ℕ → Answer
+answer number call place state message connection invoke error started stopped = record {
+  number = number;
+  call = call;
+  place = record { 0 = place };
+  state = state;
+  message = message;
+  connection = record { 0 = connection };
+  invoke = record { 0 = invoke };
+  error = error;
+  started = started;
+  stopped = stopped;
+}
 
 pub record Edge : Type 0 where
   pub from : Table
   pub event : Event
+  pub after : Table
   pub answer : Answer
 
-abbrev pub sameAnswer : Answer → Answer → Bool
-sameAnswer a b =
-    both (eqb (a .number) (b .number)) (both (sameCall (a .call) (b .call)) (both (eqb (a .place .0) (b .place .0)) (both (eqb (a .state) (b .state))
-    (both (eqb (a .message) (b .message)) (both (eqb (a .connection .0) (b .connection .0)) (both (eqb (a .invoke .0) (b .invoke .0))
-    (both (eqb (a .error) (b .error)) (both (eqb (a .started) (b .started)) (eqb (a .stopped) (b .stopped))))))))))
+abbrev pub edge : Table → Event → Table → Answer → Edge
+edge t e u a = record { from = t; event = e; after = u; answer = a }
 
-abbrev pub says : List ℕ → ℕ → ℕ → ℕ → ℕ → ℕ → ℕ → ℕ → ℕ → ℕ → Answer
-says call n p s m c i x on off = record {
-  number = n; call = call; place = record { 0 = p }; state = s; message = m;
-  connection = record { 0 = c }; invoke = record { 0 = i }; error = x; started = on; stopped = off
-}
+-- a refused edge keeps its table
+abbrev pub refusal : Table → Event → Answer → Edge
+refusal t e a = edge t e t a
 
-abbrev pub none : List ℕ
-none = replicate 16 0
-
--- number, place, state, message, connection, invoke, error, started, stopped
 abbrev pub edges : List Edge
 edges =
-    record { from = emptyTable; event = event 1 1 64 0 0; answer = says (callOf 1) 0 64 1 1 0 0 0 1 0 }
-    ∷ record { from = emptyTable; event = event 1 1 65 0 0; answer = says (callOf 1) 0 1 1 1 0 0 0 1 0 }
-    ∷ record { from = emptyTable; event = event 1 1 0 0 0; answer = says (callOf 1) 0 1 1 1 0 0 0 1 0 }
-    ∷ record { from = fullTable; event = event 1 99 5 0 0; answer = says none 4 0 0 2 0 0 1 0 0 }
-    ∷ record { from = with 0 (stay ParkWaiting (callOf 1)); event = event 1 1 5 0 0; answer = says none 3 0 0 2 0 0 1 0 0 }
-    ∷ record { from = fullTable; event = event 1 1 5 0 0; answer = says none 3 0 0 2 0 0 1 0 0 }
-    ∷ record { from = emptyTable; event = event 2 1 64 0 0; answer = says (callOf 1) 0 65 2 0 0 0 0 0 0 }
-    ∷ record { from = with 6 (held Requested 0 1); event = event 10 1 0 0 3; answer = says (callOf 1) 0 7 0 7 0 0 0 0 3 }
-    ∷ record { from = with 6 (held RemoteRequested 900 1); event = event 6 1 0 1 0; answer = says (callOf 1) 0 7 1 6 900 0 1 0 4 }
-    ∷ record { from = with 6 (held HandedOver 0 1); event = event 4 1 0 0 0; answer = says none 7 0 0 6 0 0 2 0 0 }
-    ∷ record { from = with 6 (held ParkWaiting 0 1); event = event 7 1 0 0 0; answer = says (callOf 1) 0 7 0 0 0 0 0 0 1 }
-    ∷ record { from = with 6 (held ParkWaiting 0 65535); event = event 3 1 0 0 0; answer = says (callOf 1) 0 7 3 3 0 0 0 2 0 }
-    ∷ record { from = with 70 (held LineWaiting 0 0); event = event 10 1 0 0 3; answer = says none 10 0 0 0 0 0 0 0 0 }
+    -- 1. Empty table, park proposing 64: place 64.
+    edge emptyTable (event 1 1 64 0 0) (with 64 (held ParkWaiting 0 0)) (answer 0 (callOf 1) 64 1 1 0 0 0 1 0)
+    -- 2. Proposing 65: place 1.
+    ∷ edge emptyTable (event 1 1 65 0 0) (with 1 (held ParkWaiting 0 0)) (answer 0 (callOf 1) 1 1 1 0 0 0 1 0)
+    -- 3. Proposing 0: place 1.
+    ∷ edge emptyTable (event 1 1 0 0 0) (with 1 (held ParkWaiting 0 0)) (answer 0 (callOf 1) 1 1 1 0 0 0 1 0)
+    -- 4. All 64 positions taken: 4.
+    ∷ refusal allTaken (event 1 99 5 0 0) (answer 4 noCall 0 0 2 0 0 1 0 0)
+    -- 5. Same call parked twice: 3, even when all are taken.
+    ∷ refusal (with 1 (held ParkWaiting 0 0)) (event 1 1 5 0 0) (answer 3 noCall 0 0 2 0 0 1 0 0)
+    ∷ refusal allTaken (event 1 1 5 0 0) (answer 3 noCall 0 0 2 0 0 1 0 0)
+    -- 6. Alert proposing 64 on the empty table: place 65.
+    ∷ edge emptyTable (event 2 1 64 0 0) (with 65 (held LineWaiting 0 0)) (answer 0 (callOf 1) 65 2 0 0 0 0 0 0)
+    -- 7. State 3 at a position, T3 expires: freed, message 7, stopped 3.
+    ∷ edge (with 7 (held Requested 0 1)) (event 10 1 0 0 3) emptyTable (answer 0 (callOf 1) 7 0 7 0 0 0 0 3)
+    -- 8. State 4, kind 6, right number: state 1, message 6, stopped 4.
+    ∷ edge (with 7 (held RemoteRequested 900 1)) (event 6 1 0 1 0) (with 7 (held ParkWaiting 0 1)) (answer 0 (callOf 1) 7 1 6 900 0 1 0 4)
+    -- 9. State 5, pickrequ by name: 7, error 2.
+    ∷ refusal (with 7 (held HandedOver 0 1)) (event 4 1 0 0 0) (answer 7 noCall 0 0 6 0 0 2 0 0)
+    -- 10. State 1, kind 7: freed.
+    ∷ edge (with 7 (held ParkWaiting 0 1)) (event 7 1 0 0 0) emptyTable (answer 0 (callOf 1) 7 0 0 0 0 0 0 1)
+    -- 11. Count 65,535 in state 1, local pickup: invoke 0.
+    ∷ edge (with 7 (held ParkWaiting 0 65535)) (event 3 1 0 0 0) (with 7 (held Requested 0 0)) (answer 0 (callOf 1) 7 3 3 0 0 0 2 0)
+    -- 12. Line in state 2, expiry of T3: 10.
+    ∷ refusal (with 71 (held LineWaiting 0 0)) (event 10 1 0 0 3) (answer 10 noCall 0 0 0 0 0 0 0 0)
     ∷ []
 
-abbrev pub right : Edge → Bool
-right x = sameAnswer (stepOf (x .from) (x .event) .answer) (x .answer)
+-- the step from the edge's table is the edge's answer and table
+abbrev pub IsRight : Edge → Type 0
+IsRight x = stepOf (x .from) (x .event) ≡ record { table = x .after; answer = x .answer }
 
-abbrev pub allRight : List Edge → Bool
-allRight [] = true
-allRight (x ∷ xs) = both (right x) (allRight xs)
-
-pub edges-right : T (allRight edges)
-edges-right = tt
+-- THE STATEMENT
+abbrev pub AllRight : List Edge → Type 0
+AllRight [] = Unit {0}
+AllRight (x ∷ xs) = IsRight x × AllRight xs

@@ -1,166 +1,148 @@
--- What an event does to the record of one place: clauses 7.3 and 7.5.
-use mathlib.Core.Bool.{Bool, true, false}
-use mathlib.Core.List.{List, [], _∷_}
-use Prim.Native.Nat.{ℕ, _+_, _%_, _/_, _^_}
+-- What an event does at one place (document 01, "Events"; H.450.5, 7.3 and 7.5). The outcome says only what changes: a refusal,
+-- the end of the stay, or the stage that the call is now at with its count. So a freed record is all zeros, a call stays the
+-- same, an occupied place stays occupied, and only state 4 has a connection, all by construction.
+-- Assumes nothing.
+use mathlib.Core.Bool.{Bool, true, false, cond}
+use mathlib.Core.List.{List}
+use Prim.Native.Nat.{ℕ, _+_, _/_, _%_, _^_}
 use lib.Dec.{eqb}
-use lib.ListN.{replicate}
-use Rattle.table.specs.declared.Record.{Record}
 use Rattle.table.specs.declared.Connection.{Connection}
 use Rattle.table.specs.declared.Invoke.{Invoke}
 use Rattle.table.specs.declared.State.{State}
 use Rattle.table.specs.declared.State.the-variants.{Free, ParkWaiting, LineWaiting, Requested, RemoteRequested, HandedOver}
 use Rattle.table.specs.declared.Side.{Side}
-use Rattle.table.specs.declared.Side.the-variants.{Position, Line, Neither}
-use Rattle.table.specs.Search.{both, timerSet, sameState}
+use Rattle.table.specs.declared.Side.the-variants.{Position, Line}
+use Rattle.table.specs.declared.Record.{Record}
+use Rattle.table.specs.Places.{isFree, waitingOn, noConnection, noInvoke}
+use Rattle.table.specs.Timers.{timerSet}
 use Rattle.step.specs.declared.Event.{Event}
-use Rattle.step.specs.declared.Turn.{Turn}
-use Rattle.step.specs.declared.Rule.{Rule}
-use Rattle.step.specs.declared.Rule.the-variants.{Park, Alert, Pick, PickRemote, Result, Fault, FaultInRelease, Release, Answered, Expiry, Unknown}
-use Rattle.step.specs.declared.Message.{Message}
-use Rattle.step.specs.declared.Message.the-variants.{Silent, ParkResult, ParkError, Connect, Facility, PickResult, PickError, Hangup}
-use Rattle.step.specs.declared.Asked.{Asked}
-use Rattle.step.specs.declared.Asked.the-variants.{Local, Remote, Unasked}
+use Rattle.step.specs.declared.rule.Rule.{Rule}
+use Rattle.step.specs.declared.rule.Rule.the-variants.{Start, On, Unknown}
+use Rattle.step.specs.declared.rule.Signal.{Signal}
+use Rattle.step.specs.declared.rule.Signal.the-variants.{LocalPickup, PickRequest, PickupResult, PickupError, ErrorInRelease, Release, Answered, Expiry}
+use Rattle.step.specs.declared.message.Message.{Message}
+use Rattle.step.specs.declared.message.Message.the-variants.{NoMessage, ParkResult, Connect, Facility, PickResult, PickError, ReleaseComplete}
+use Rattle.step.specs.declared.message.ErrorValue.the-variants.{Undefined}
+use Rattle.step.specs.declared.refusal.Refusal.{Refusal}
+use Rattle.step.specs.declared.refusal.Refusal.the-variants.{UnknownKind, CallNotHeld, PickupPending, StateUnfit, NotOutstanding, TimerNotRunning}
+use Rattle.step.specs.declared.turn.Stage.{Stage}
+use Rattle.step.specs.declared.turn.Stage.the-variants.{Waits, AskedHere, AskedFrom, Taken}
+use Rattle.step.specs.declared.turn.Outcome.{Outcome}
+use Rattle.step.specs.declared.turn.Outcome.the-variants.{Refused, Freed, Becomes}
 
--- the first where the test passes, else the second
-abbrev pub pick : {A : Type 0} → Bool → A → A → A
-pick true a b = a
-pick false a b = b
+-- ---- a held call's stage, and its record
 
--- the paper's number of a message
-abbrev pub messageNumber : Message → ℕ
-messageNumber Silent = 0
-messageNumber ParkResult = 1
-messageNumber ParkError = 2
-messageNumber Connect = 3
-messageNumber Facility = 4
-messageNumber PickResult = 5
-messageNumber PickError = 6
-messageNumber Hangup = 7
+-- states 1 and 2; 3; 4 with its connection; 5. (No rule looks at the stage of a free record.)
+abbrev pub stageBy : State → Connection → Stage
+stageBy Free c = Waits
+stageBy ParkWaiting c = Waits
+stageBy LineWaiting c = Waits
+stageBy Requested c = AskedHere
+stageBy RemoteRequested c = AskedFrom c
+stageBy HandedOver c = Taken
 
--- the rule of an event's kind
-abbrev pub ruleOf : ℕ → Rule
-ruleOf k =
-    pick (eqb k 1) Park (pick (eqb k 2) Alert (pick (eqb k 3) Pick (pick (eqb k 4) PickRemote
-    (pick (eqb k 5) Result (pick (eqb k 6) Fault (pick (eqb k 7) FaultInRelease (pick (eqb k 8) Release
-    (pick (eqb k 9) Answered (pick (eqb k 10) Expiry Unknown)))))))))
+abbrev pub stageOf : Record → Stage
+stageOf r = stageBy (r .state) (r .connection)
 
-abbrev pub noConnection : Connection
-noConnection = record { 0 = 0 }
+abbrev pub stateAt : Side → Stage → State
+stateAt a Waits = waitingOn a
+stateAt a AskedHere = Requested
+stateAt a (AskedFrom c) = RemoteRequested
+stateAt a Taken = HandedOver
 
-abbrev pub noInvoke : Invoke
-noInvoke = record { 0 = 0 }
+-- "On leaving state 4 the connection becomes 0."
+abbrev pub connectionAt : Stage → Connection
+connectionAt Waits = noConnection
+connectionAt AskedHere = noConnection
+connectionAt (AskedFrom c) = c
+connectionAt Taken = noConnection
 
-abbrev pub freeRecord : Record
-freeRecord = record { state = Free; call = replicate 16 0; connection = noConnection; count = noInvoke }
+abbrev pub heldRecord : Side → Stage → List ℕ → Invoke → Record
+heldRecord a s call n = record { state = stateAt a s; call = call; connection = connectionAt s; count = n }
 
--- the next invoke number: after 65,535 comes 0
+-- ---- the ten kinds
+
+-- kinds 1 and 2: "To state 1. Message 1." "To state 2. No message."
+abbrev pub greeting : Side → Message
+greeting Position = ParkResult
+greeting Line = NoMessage
+
+-- "Count up by one"; "after 65,535 comes 0"
 abbrev pub up : Invoke → Invoke
 up n = record { 0 = (n .0 + 1) % 2 ^ 16 }
 
--- the record that the place has now, and a message with no more
-abbrev pub done : Record → Message → Turn
-done r m = record { number = 0; next = r; message = m; connection = noConnection; invoke = noInvoke; error = 0 }
+-- kinds 3 and 4: a waiting call goes to the stage given; refusal 7 in states 3, 4 and 5
+abbrev pub pickedUp : Stage → Stage → Invoke → Message → Outcome
+pickedUp Waits to n m = Becomes to n m
+pickedUp AskedHere to n m = Refused PickupPending
+pickedUp (AskedFrom c) to n m = Refused PickupPending
+pickedUp Taken to n m = Refused PickupPending
 
--- a message to the picker
-abbrev pub told : Record → Message → Connection → ℕ → Turn
-told r m c x = record { number = 0; next = r; message = m; connection = c; invoke = noInvoke; error = x }
+-- "The outstanding number is the count."
+abbrev pub isOutstanding : Record → Invoke → Bool
+isOutstanding r n = eqb (n .0) (r .count .0)
 
-abbrev pub refused : Record → ℕ → Turn
-refused r n = record { number = n; next = r; message = Silent; connection = noConnection; invoke = noInvoke; error = 0 }
+abbrev pub ifOutstanding : Bool → Outcome → Outcome
+ifOutstanding right u = cond right u (Refused NotOutstanding)
 
-abbrev pub isWaiting : State → Bool
-isWaiting Free = false
-isWaiting ParkWaiting = true
-isWaiting LineWaiting = true
-isWaiting Requested = false
-isWaiting RemoteRequested = false
-isWaiting HandedOver = false
+-- kind 5: "State 3: freed, no message. State 4: to 5, message 5."
+abbrev pub resulted : Stage → Bool → Invoke → Outcome
+resulted Waits right n = Refused StateUnfit
+resulted AskedHere right n = ifOutstanding right (Freed NoMessage)
+resulted (AskedFrom c) right n = ifOutstanding right (Becomes Taken n (PickResult c))
+resulted Taken right n = Refused StateUnfit
 
--- is a pickup outstanding, and whose
-abbrev pub askedIn : State → Asked
-askedIn Free = Unasked
-askedIn ParkWaiting = Unasked
-askedIn LineWaiting = Unasked
-askedIn Requested = Local
-askedIn RemoteRequested = Remote
-askedIn HandedOver = Unasked
+-- kind 6: "State 3: freed, message 7. State 4: back to 1 or 2, message 6."
+abbrev pub failed : Stage → Bool → Invoke → Outcome
+failed Waits right n = Refused StateUnfit
+failed AskedHere right n = ifOutstanding right (Freed ReleaseComplete)
+failed (AskedFrom c) right n = ifOutstanding right (Becomes Waits n (PickError c Undefined))
+failed Taken right n = Refused StateUnfit
 
-abbrev pub waitingOn : Side → State
-waitingOn Position = ParkWaiting
-waitingOn Line = LineWaiting
-waitingOn Neither = Free
+-- kind 8: "Any occupied state: freed, no message."
+abbrev pub released : Outcome
+released = Freed NoMessage
 
--- kinds 1 and 2: a new stay
-abbrev pub stay : State → List ℕ → Record
-stay s call = record { state = s; call = call; connection = noConnection; count = noInvoke }
+-- kind 7: "State 3 with the right invoke number: freed, no message. State 4 with the right number: freed, message 6. Every other
+-- state or number: exactly as kind 8."
+abbrev pub failedInRelease : Stage → Bool → Outcome
+failedInRelease Waits right = released
+failedInRelease AskedHere right = cond right (Freed NoMessage) released
+failedInRelease (AskedFrom c) right = cond right (Freed (PickError c Undefined)) released
+failedInRelease Taken right = released
 
--- kinds 3 and 4: a pickup
-abbrev pub picked : Record → State → Connection → Message → Turn
-picked r s c m = pick (isWaiting (r .state))
-    (record {
-      number = 0;
-      next = record { state = s; call = r .call; connection = c; count = up (r .count) };
-      message = m;
-      connection = noConnection;
-      invoke = up (r .count);
-      error = 0;
-    })
-    (refused r 7)
+-- kind 9: "State 2: freed, no message."
+abbrev pub answered : State → Outcome
+answered Free = Refused StateUnfit
+answered ParkWaiting = Refused StateUnfit
+answered LineWaiting = Freed NoMessage
+answered Requested = Refused StateUnfit
+answered RemoteRequested = Refused StateUnfit
+answered HandedOver = Refused StateUnfit
 
--- a pickup turned down: the call waits again, and the picker is told
-abbrev pub turnedDown : Side → Record → Turn
-turnedDown a r = told (record { state = waitingOn a; call = r .call; connection = noConnection; count = r .count }) PickError (r .connection) 1
-
--- the outstanding number must be right
-abbrev pub ifRight : Record → Invoke → Turn → Turn
-ifRight r n u = pick (eqb (n .0) (r .count .0)) u (refused r 9)
-
--- the remote picker has the call; it is held until its release comes
-abbrev pub handedOver : Record → Turn
-handedOver r = told (record { state = HandedOver; call = r .call; connection = noConnection; count = r .count }) PickResult (r .connection) 0
-
--- kind 5
-abbrev pub resulted : Asked → Record → Invoke → Turn
-resulted Local r n = ifRight r n (done freeRecord Silent)
-resulted Remote r n = ifRight r n (handedOver r)
-resulted Unasked r n = refused r 8
-
--- kind 6
-abbrev pub faulted : Asked → Side → Record → Invoke → Turn
-faulted Local a r n = ifRight r n (done freeRecord Hangup)
-faulted Remote a r n = ifRight r n (turnedDown a r)
-faulted Unasked a r n = refused r 8
-
--- kind 7: the call is gone all the same
-abbrev pub faultedInRelease : Asked → Record → Invoke → Turn
-faultedInRelease Local r n = done freeRecord Silent
-faultedInRelease Remote r n = pick (eqb (n .0) (r .count .0)) (told freeRecord PickError (r .connection) 1) (done freeRecord Silent)
-faultedInRelease Unasked r n = done freeRecord Silent
-
--- kind 9
-abbrev pub answered : State → Record → Turn
-answered s r = pick (sameState s LineWaiting) (done freeRecord Silent) (refused r 8)
-
--- is the timer, 3, 6 or 9, in the set
+-- is T3, T6 or T9 in the set
 abbrev pub runs : ℕ → ℕ → Bool
-runs set timer = pick (eqb timer 3) (eqb (set % 2) 1) (pick (eqb timer 6) (eqb (set / 2 % 2) 1) (pick (eqb timer 9) (eqb (set / 4 % 2) 1) false))
+runs set timer = cond (eqb timer 3) (eqb (set % 2) 1) (cond (eqb timer 6) (eqb (set / 2 % 2) 1) (cond (eqb timer 9) (eqb (set / 4 % 2) 1) false))
 
--- kind 10: T9 is as kind 6 in state 4
-abbrev pub expired : Side → Record → ℕ → Turn
-expired a r timer = pick (runs (timerSet a (r .state)) timer) (pick (eqb timer 9) (turnedDown a r) (done freeRecord Hangup)) (refused r 10)
+-- kind 10: "T3: freed, message 7. T6: freed, message 7. T9 (house): as kind 6 in state 4."
+abbrev pub expired : Bool → ℕ → Stage → Invoke → Outcome
+expired running timer s n = cond running (cond (eqb timer 9) (failed s true n) (Freed ReleaseComplete)) (Refused TimerNotRunning)
 
-abbrev pub turnBy : Rule → Side → Record → Event → Turn
-turnBy Park a r e = done (stay ParkWaiting (e .call)) ParkResult
-turnBy Alert a r e = done (stay LineWaiting (e .call)) Silent
-turnBy Pick a r e = picked r Requested noConnection Connect
-turnBy PickRemote a r e = picked r RemoteRequested (e .connection) Facility
-turnBy Result a r e = resulted (askedIn (r .state)) r (e .invoke)
-turnBy Fault a r e = faulted (askedIn (r .state)) a r (e .invoke)
-turnBy FaultInRelease a r e = faultedInRelease (askedIn (r .state)) r (e .invoke)
-turnBy Release a r e = done freeRecord Silent
-turnBy Answered a r e = answered (r .state) r
-turnBy Expiry a r e = expired a r (e .timer)
-turnBy Unknown a r e = refused r 1
+-- ---- the turn
 
-abbrev pub turnOf : Side → Record → Event → Turn
-turnOf a r e = turnBy (ruleOf (e .kind)) a r e
+-- a signal on a held call
+abbrev pub turnOn : Signal → Side → Record → Event → Outcome
+turnOn LocalPickup a r e = pickedUp (stageOf r) AskedHere (up (r .count)) (Connect (up (r .count)))
+turnOn PickRequest a r e = pickedUp (stageOf r) (AskedFrom (e .connection)) (up (r .count)) (Facility (up (r .count)))
+turnOn PickupResult a r e = resulted (stageOf r) (isOutstanding r (e .invoke)) (r .count)
+turnOn PickupError a r e = failed (stageOf r) (isOutstanding r (e .invoke)) (r .count)
+turnOn ErrorInRelease a r e = failedInRelease (stageOf r) (isOutstanding r (e .invoke))
+turnOn Release a r e = released
+turnOn Answered a r e = answered (r .state)
+turnOn Expiry a r e = expired (runs (timerSet a (r .state)) (e .timer)) (e .timer) (stageOf r) (r .count)
+
+-- what an event does at a place of side a with record r: "The count starts at 0 in a new stay"
+abbrev pub turn : Rule → Side → Record → Event → Outcome
+turn (Start d) a r e = Becomes Waits noInvoke (greeting d)
+turn (On s) a r e = cond (isFree (r .state)) (Refused CallNotHeld) (turnOn s a r e)
+turn Unknown a r e = Refused UnknownKind

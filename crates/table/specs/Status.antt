@@ -1,52 +1,52 @@
--- The status of a table.
-use mathlib.Core.Bool.{Bool, true, false}
-use mathlib.Core.List.{List, [], _∷_}
-use Prim.Native.Nat.{ℕ, _+_}
+-- The status query (document 01, "Status gives .."): four sums over the places.
+-- Assumes nothing.
+use mathlib.Core.Bool.{Bool, true, false, cond}
+use Prim.Native.Nat.{ℕ}
 use lib.Count.{ones}
-use Rattle.table.specs.declared.Record.{Record}
-use Rattle.table.specs.declared.Table.{Table}
-use Rattle.table.specs.declared.Status.{Status}
 use Rattle.table.specs.declared.State.{State}
 use Rattle.table.specs.declared.State.the-variants.{Free, ParkWaiting, LineWaiting, Requested, RemoteRequested, HandedOver}
 use Rattle.table.specs.declared.Side.{Side}
-use Rattle.table.specs.declared.Side.the-variants.{Position, Line, Neither}
-use Rattle.table.specs.Search.{both, isAt, sideOf, timerSet, total}
+use Rattle.table.specs.declared.Side.the-variants.{Position, Line}
+use Rattle.table.specs.declared.Record.{Record}
+use Rattle.table.specs.declared.Table.{Table}
+use Rattle.table.specs.declared.status.Status.{Status}
+use Rattle.table.specs.Places.{sideAt}
+use Rattle.table.specs.Timers.{timerSet}
+use Rattle.table.specs.Search.{isAt, total}
 use Rattle.table.specs.Sound.{isSound}
 
--- 1 for a test that passes
-abbrev pub bit : Bool → ℕ
-bit true = 1
-bit false = 0
-
-abbrev pub waits : State → ℕ
-waits Free = 0
-waits ParkWaiting = 1
-waits LineWaiting = 1
-waits Requested = 0
-waits RemoteRequested = 0
-waits HandedOver = 0
-
+-- a record counts 1 where it is free and its place is on the side
 abbrev pub freeOn : Side → ℕ → Record → ℕ
-freeOn a i r = bit (isAt a Free i r)
+freeOn a i r = cond (isAt a Free i r) 1 0
 
-abbrev pub waiting : ℕ → Record → ℕ
-waiting i r = waits (r .state)
+-- "waiting calls (states 1 and 2)"
+abbrev pub waitsIn : State → ℕ
+waitsIn Free = 0
+waitsIn ParkWaiting = 1
+waitsIn LineWaiting = 1
+waitsIn Requested = 0
+waitsIn RemoteRequested = 0
+waitsIn HandedOver = 0
 
-abbrev pub running : ℕ → Record → ℕ
-running i r = ones (timerSet (sideOf (i + 1)) (r .state))
+abbrev pub waitsAt : ℕ → Record → ℕ
+waitsAt i r = waitsIn (r .state)
 
-abbrev pub pickStatus : Bool → Status → Status → Status
-pickStatus true a b = a
-pickStatus false a b = b
+-- "running timers, counted as the ones in all places' timer sets"
+abbrev pub runningAt : ℕ → Record → ℕ
+runningAt i r = ones (timerSet (sideAt i) (r .state))
 
 abbrev pub tallyOf : Table → Status
 tallyOf t = record {
   number = 0;
   positions = total (freeOn Position) 0 (t .places);
   lines = total (freeOn Line) 0 (t .places);
-  waiting = total waiting 0 (t .places);
-  timers = total running 0 (t .places);
+  waiting = total waitsAt 0 (t .places);
+  timers = total runningAt 0 (t .places);
 }
 
+-- "An unsound table gives 25 and four zeros."
+abbrev pub unsoundStatus : Status
+unsoundStatus = record { number = 25; positions = 0; lines = 0; waiting = 0; timers = 0 }
+
 abbrev pub statusOf : Table → Status
-statusOf t = pickStatus (isSound t) (tallyOf t) (record { number = 25; positions = 0; lines = 0; waiting = 0; timers = 0 })
+statusOf t = cond (isSound t) (tallyOf t) unsoundStatus

@@ -1,0 +1,426 @@
+-- The promises of `specs/Promises.antt`, each by the four cases of `Stepped`.
+-- Assumes nothing.
+use mathlib.Core.Path.{_≡_, refl, sym, ap, ap₂, _∙_}
+use mathlib.Core.Bool.{Bool, true, false, cond, not, _&&_, true≢false, false≢true}
+use mathlib.Core.List.{List}
+use mathlib.Core.Logic.{_⊎_, inl, inr, ⊎-elim}
+use Prim.Native.Nat.{ℕ, _+_, _<_, _≤_, _%_}
+use native.Mathlib.Omega.{arith}
+use lib.Dec.{eqb, ltb}
+use lib.ListN.{length}
+use borrow.Author.Tests.{lt-ltb, le-ltb, eqb-true, eq-eqb}
+use Rattle.laws.proofs.Bools.{never, not-both}
+use Rattle.table.specs.declared.State.{State}
+use Rattle.table.specs.declared.State.the-variants.{Free, RemoteRequested}
+use Rattle.table.specs.declared.Side.{Side}
+use Rattle.table.specs.declared.Side.the-variants.{Position, Line}
+use Rattle.table.specs.declared.Record.{Record}
+use Rattle.table.specs.declared.Table.{Table}
+use Rattle.table.specs.declared.Found.{Found}
+use Rattle.table.specs.declared.Found.the-variants.{At, Nothing}
+use Rattle.table.specs.Places.{stateNumber, isFree, sideOf, sideAt, placeAt, noInvoke, noConnection, freeRecord, recordAt}
+use Rattle.table.specs.Timers.{startedSet}
+use Rattle.table.specs.Search.{holds, findCall}
+use Rattle.table.specs.Sound.{isSound, fitsSide, Sound}
+use Rattle.table.proofs.Calls.{holds-same, holds-occupied, occupied-holds}
+use Rattle.table.proofs.Searches.{found-passes, none-passes}
+use Rattle.table.proofs.Facts.{facts-of-test, test-of-facts, free-state}
+use Rattle.table.proofs.Keep.{put, put-size, put-here, put-other, put-sound}
+use Rattle.step.specs.declared.Event.{Event}
+use Rattle.step.specs.declared.Step.{Step}
+use Rattle.step.specs.declared.rule.Rule.{Rule}
+use Rattle.step.specs.declared.rule.Rule.the-variants.{Start, On, Unknown}
+use Rattle.step.specs.declared.rule.Signal.{Signal}
+use Rattle.step.specs.declared.rule.Signal.the-variants.{LocalPickup, PickRequest, PickupResult, PickupError, ErrorInRelease, Release, Answered, Expiry}
+use Rattle.step.specs.declared.message.Message.{Message}
+use Rattle.step.specs.declared.message.Message.the-variants.{NoMessage, PickResult, PickError}
+use Rattle.step.specs.declared.message.ErrorValue.the-variants.{Undefined}
+use Rattle.step.specs.declared.refusal.Refusal.{Refusal}
+use Rattle.step.specs.declared.refusal.Refusal.the-variants.{UnknownKind, ChoiceOrTimer, CallHeld, SideFull, CallNotHeld, NothingWaits, PickupPending, StateUnfit, NotOutstanding, TimerNotRunning, TableUnsound}
+use Rattle.step.specs.declared.turn.Stage.{Stage}
+use Rattle.step.specs.declared.turn.Stage.the-variants.{Waits, AskedHere, AskedFrom, Taken}
+use Rattle.step.specs.declared.turn.Outcome.{Outcome}
+use Rattle.step.specs.declared.turn.Outcome.the-variants.{Refused, Freed, Becomes}
+use Rattle.step.specs.declared.aim.Aim.{Aim}
+use Rattle.step.specs.declared.aim.Aim.the-variants.{To, Nowhere}
+use Rattle.step.specs.Rule.{ruleOf}
+use Rattle.step.specs.Refusal.{refusalNumber}
+use Rattle.step.specs.Turn.{heldRecord, stageOf, greeting, isOutstanding, ifOutstanding, failedInRelease, turnOn, turn}
+use Rattle.step.specs.Aim.{aim, aimAt, aimNamed, aimOn, nextWaiting}
+use Rattle.step.specs.Step.{refusedBy, done, stayCall, settled, carriedOut, stepOf}
+use Rattle.step.specs.Promises.{Full, IsAccepted, KeepsSound, RefusalKeeps, Move, starts, AtOnePlace, AcceptedAtOnePlace, one-if, T3RunsThrough, namesCall, byName, MatchedByCall, NotHeldIs5, StartAnswersItsCall, onlyNamed, IgnoresOtherFields, ReleaseFrees, RemoteResultHolds}
+use Rattle.step.proofs.Aims.{Room, aim-on, aim-lost, free-number}
+use Rattle.step.proofs.Turns.{stage-fits, free-fits, waiting-offered, stage-occupied, stage-connection, move-end, move-on}
+use Rattle.step.proofs.Timers.{t3-started}
+use Rattle.step.proofs.Stepped.{Reached, Stepped, kept, begun, ended, went-on, stepped}
+
+-- no refusal has the number of an accepted event
+refused-not-0 : (w : Refusal) → refusalNumber w ≡ 0 → ⊥
+refused-not-0 UnknownKind h = omega arith
+refused-not-0 ChoiceOrTimer h = omega arith
+refused-not-0 CallHeld h = omega arith
+refused-not-0 SideFull h = omega arith
+refused-not-0 CallNotHeld h = omega arith
+refused-not-0 NothingWaits h = omega arith
+refused-not-0 PickupPending h = omega arith
+refused-not-0 StateUnfit h = omega arith
+refused-not-0 NotOutstanding h = omega arith
+refused-not-0 TimerNotRunning h = omega arith
+refused-not-0 TableUnsound h = omega arith
+
+-- kind 1 is the only one that parks
+abbrev parks : Rule → Bool
+parks (Start Position) = true
+parks (Start Line) = false
+parks (On s) = false
+parks Unknown = false
+
+parks-kind : (kind : ℕ) → parks (ruleOf kind) ≡ eqb kind 1
+parks-kind kind =
+    first (eqb kind 1) _
+    (other (eqb kind 2) _ _ refl (other (eqb kind 3) _ _ refl (other (eqb kind 4) _ _ refl (other (eqb kind 5) _ _ refl
+    (other (eqb kind 6) _ _ refl (other (eqb kind 7) _ _ refl (other (eqb kind 8) _ _ refl (other (eqb kind 9) _ _ refl (other (eqb kind 10) _ _ refl refl)))))))))
+  where
+    other : (b : Bool) (x y : Rule) → parks x ≡ false → parks y ≡ false → parks (cond b x y) ≡ false
+    other true x y p q = p
+    other false x y p q = q
+
+    first : (b : Bool) (rest : Rule) → parks rest ≡ false → parks (cond b (Start Position) rest) ≡ b
+    first true rest p = refl
+    first false rest p = p
+
+module _ (t : Table) (size : length (t .places) ≡ 96) (e : Event) where
+  -- ---- the table after
+
+  full : (s : Step) → Stepped t size e s → length (s .table .places) ≡ 96
+  full s (kept w) = size
+  full s (begun d i sound rule room) = put-size t size i (room .inside) _
+  full s (ended k i m at turn) = put-size t size i (at .inside) _
+  full s (went-on k i g n m at turn) = put-size t size i (at .inside) _
+
+  -- a record of a stage fits, is tidy, and keeps the table sound if nobody else holds its call
+  stage-sound : Sound t → (i : ℕ) → i < 96 → (g : Stage) (call : List ℕ) (n : _)
+      → ((j : ℕ) → j < 96 → (j ≡ i → ⊥) → isFree (recordAt t j .state) ≡ false → call ≡ recordAt t j .call → ⊥)
+      → Sound (put t i (heldRecord (sideAt i) g call n))
+  stage-sound s i inside g call n alone =
+      put-sound t size i inside (heldRecord (sideAt i) g call n) s (stage-fits (sideAt i) g)
+      (λ f. absurd (not-both f (stage-occupied (sideAt i) g)))
+      (stage-connection (sideAt i) g)
+      (λ j hj ne f fj c. alone j hj ne fj c)
+
+  sound-after : (s : Step) → Stepped t size e s → Sound t → Sound (s .table)
+  sound-after s (kept w) S = S
+  sound-after s (begun d i sound rule room) S =
+      stage-sound S i (room .inside) Waits (e .call) noInvoke (λ j hj ne fj c.
+      not-both (occupied-holds (e .call) (recordAt t j) fj (sym c)) (none-passes t size (λ k. holds (e .call)) (room .absent) j hj))
+  sound-after s (ended k i m at turn) S =
+      put-sound t size i (at .inside) freeRecord S (free-fits (sideAt i)) (λ f. refl) (λ f. refl) (λ j hj ne f fj c. true≢false f)
+  sound-after s (went-on k i g n m at turn) S =
+      stage-sound S i (at .inside) g (recordAt t i .call) n (λ j hj ne fj c.
+      ne (sym (S .one-place i j (at .inside) hj (at .occupied) fj c)))
+
+  table-kept : (s : Step) → Stepped t size e s → (s .answer .number ≡ 0 → ⊥) → s .table ≡ t
+  table-kept s (kept w) h = refl
+  table-kept s (begun d i sound rule room) h = absurd (h refl)
+  table-kept s (ended k i m at turn) h = absurd (h refl)
+  table-kept s (went-on k i g n m at turn) h = absurd (h refl)
+
+  -- ---- an accepted event
+
+  -- a new record at an index, with the call and the move that are said of it
+  one-place : (i : ℕ) (new : Record) (call : List ℕ) (m : Message) → i < 96 → Move (recordAt t i .state) (new .state)
+      → (isFree (recordAt t i .state) ≡ false → recordAt t i .call ≡ call) → (isFree (new .state) ≡ false → new .call ≡ call)
+      → AtOnePlace t (done t i new call m)
+  one-place i new call m inside move before after =
+      let here : recordAt (put t i new) i ≡ new = put-here t size i inside new in
+      record {
+        index = i;
+        inside = inside;
+        place = refl;
+        others = put-other t size i inside new;
+        state = rw here;
+        move = rw here move;
+        call-before = before;
+        call-after = rw here after;
+        started = rw here;
+        stopped = rw here;
+      }
+
+  at-one-place : (s : Step) → Stepped t size e s → s .answer .number ≡ 0 → AtOnePlace t s
+  at-one-place s (kept w) h = absurd (refused-not-0 w h)
+  at-one-place s (begun d i sound rule room) h =
+      let was : recordAt t i .state ≡ Free = free-state (recordAt t i .state) (room .vacant) in
+      one-place i (heldRecord (sideAt i) Waits (e .call) noInvoke) (e .call) (greeting d) (room .inside)
+      (rw was (starts (waiting-offered (sideAt i)))) (λ f. absurd (not-both (room .vacant) f)) (λ f. refl)
+  at-one-place s (ended k i m at turn) h =
+      one-place i freeRecord (recordAt t i .call) m (at .inside) (move-end (recordAt t i .state) (at .occupied)) (λ f. refl) (λ f. absurd (true≢false f))
+  at-one-place s (went-on k i g n m at turn) h =
+      one-place i (heldRecord (sideAt i) g (recordAt t i .call) n) (recordAt t i .call) m (at .inside)
+      (move-on k (sideAt i) (recordAt t i) e g n m (at .occupied) turn) (λ f. refl) (λ f. refl)
+
+  -- ---- T3
+
+  -- the places up to 64 are positions
+  low-side : (i : ℕ) → i < 96 → placeAt i .0 ≤ 64 → sideAt i ≡ Position
+  low-side i inside low =
+      let in-table : ltb i 96 ≡ true = lt-ltb i 96 inside in
+      let here : i + 1 ≤ 64 = rw in-table at low in
+      rw (in-table, le-ltb (i + 1) 1 (omega arith), lt-ltb (i + 1) 65 (omega arith))
+
+  -- what is said of the T3 bits, of a new record at a position
+  t3-bits : (i : ℕ) (new : Record) (call : List ℕ) (m : Message) → isSound t ≡ true → i < 96 → placeAt i .0 ≤ 64 → fitsSide (sideAt i) (new .state) ≡ true
+      → (done t i new call m .answer .started % 2 ≡ one-if (isFree (recordAt t i .state) && not (isFree (new .state))))
+      × (done t i new call m .answer .stopped % 2 ≡ one-if (isFree (new .state) && not (isFree (recordAt t i .state))))
+  t3-bits i new call m sound inside low fit =
+      let position = low-side i inside low in
+      let was : fitsSide Position (recordAt t i .state) ≡ true = rw position at (facts-of-test t size sound .fits i inside) in
+      let is : fitsSide Position (new .state) ≡ true = rw position at fit in
+      rw position (t3-started (recordAt t i .state) (new .state) was is, t3-started (new .state) (recordAt t i .state) is was)
+
+  abbrev T3 : Step → Type 0
+  T3 s = (s .answer .started % 2 ≡ one-if (eqb (e .kind) 1)) × (s .answer .stopped % 2 ≡ one-if (eqb (s .answer .state) 0))
+
+  t3 : (s : Step) → Stepped t size e s → s .answer .number ≡ 0 → s .answer .place .0 ≤ 64 → T3 s
+  t3 s (kept w) h low = absurd (refused-not-0 w h)
+  t3 s (begun d i sound rule room) h low =
+      let new : Record = heldRecord (sideAt i) Waits (e .call) noInvoke in
+      let b = t3-bits i new (e .call) (greeting d) sound (room .inside) low (stage-fits (sideAt i) Waits) in
+      let busy = stage-occupied (sideAt i) Waits in
+      let side : d ≡ Position = sym (room .side) ∙ low-side i (room .inside) low in
+      let kind : eqb (e .kind) 1 ≡ true = sym (parks-kind (e .kind)) ∙ rw (rule, side) in
+      let zero : eqb (stateNumber (new .state)) 0 ≡ false = sym (free-number (new .state)) ∙ busy in
+      (b .0 ∙ rw (room .vacant, busy, kind), b .1 ∙ rw (busy, zero))
+  t3 s (ended k i m at turn) h low =
+      let b = t3-bits i freeRecord (recordAt t i .call) m (at .sound) (at .inside) low (free-fits (sideAt i)) in
+      let kind : eqb (e .kind) 1 ≡ false = sym (parks-kind (e .kind)) ∙ rw (at .rule) in
+      (b .0 ∙ rw (at .occupied, kind), b .1 ∙ rw (at .occupied))
+  t3 s (went-on k i g n m at turn) h low =
+      let new : Record = heldRecord (sideAt i) g (recordAt t i .call) n in
+      let b = t3-bits i new (recordAt t i .call) m (at .sound) (at .inside) low (stage-fits (sideAt i) g) in
+      let busy = stage-occupied (sideAt i) g in
+      let kind : eqb (e .kind) 1 ≡ false = sym (parks-kind (e .kind)) ∙ rw (at .rule) in
+      let zero : eqb (stateNumber (new .state)) 0 ≡ false = sym (free-number (new .state)) ∙ busy in
+      (b .0 ∙ rw (at .occupied, kind), b .1 ∙ rw (busy, zero))
+
+  -- ---- matching
+
+  -- the place of an index tells the index
+  same-index : (i j : ℕ) → i < 96 → j < 96 → placeAt i ≡ placeAt j → i ≡ j
+  same-index i j hi hj q =
+      let ti : ltb i 96 ≡ true = lt-ltb i 96 hi in
+      let tj : ltb j 96 ≡ true = lt-ltb j 96 hj in
+      let p : i + 1 ≡ j + 1 = ap (λ x. x .0) (rw (ti, tj) at q) in
+      omega arith
+
+  -- the signal reached the place that holds the event's call
+  reached-call : (k : Signal) (i : ℕ) → Reached t e k i → byName e ≡ true → holds (e .call) (recordAt t i) ≡ true
+  reached-call k i at named = aim-on t size k e i (at .aimed) .1 (rw (at .rule) at named)
+
+  abbrev Matched : Step → Type 0
+  Matched s = (x : AtOnePlace t s) → (holds (e .call) (recordAt t (x .index)) ≡ true) × (s .answer .call ≡ e .call)
+
+  matched-at : (k : Signal) (i : ℕ) (new : Record) (m : Message) → Reached t e k i → byName e ≡ true → Matched (done t i new (recordAt t i .call) m)
+  matched-at k i new m at named x =
+      let same : i ≡ x .index = same-index i (x .index) (at .inside) (x .inside) (x .place) in
+      let held = reached-call k i at named in
+      (rw same at held, holds-same (e .call) (recordAt t i) held)
+
+  matched : (s : Step) → Stepped t size e s → s .answer .number ≡ 0 → byName e ≡ true → Matched s
+  matched s (kept w) h named = absurd (refused-not-0 w h)
+  matched s (begun d i sound rule room) h named = never (rw rule at named)
+  matched s (ended k i m at turn) h named = matched-at k i freeRecord m at named
+  matched s (went-on k i g n m at turn) h named = matched-at k i (heldRecord (sideAt i) g (recordAt t i .call) n) m at named
+
+  own-call : (d : Side) → ruleOf (e .kind) ≡ Start d → (s : Step) → Stepped t size e s → s .answer .number ≡ 0 → s .answer .call ≡ e .call
+  own-call d start s (kept w) h = absurd (refused-not-0 w h)
+  own-call d start s (begun b i sound rule room) h = refl
+  own-call d start s (ended k i m at turn) h = absurd (let z : _≡_ {A = ℕ} 0 1 = cc (sym start ∙ at .rule) in omega arith)
+  own-call d start s (went-on k i g n m at turn) h = absurd (let z : _≡_ {A = ℕ} 0 1 = cc (sym start ∙ at .rule) in omega arith)
+
+  lost-is-5 : byName e ≡ true → ((j : ℕ) → j < 96 → holds (e .call) (recordAt t j) ≡ false) → isSound t ≡ true → stepOf t e .answer .number ≡ 5
+  lost-is-5 named gone sound = rw sound (by (ruleOf (e .kind)) named)
+    where
+      by : (k : Rule) → namesCall k e ≡ true → carriedOut k t e (aim (nextWaiting t) k t e) .answer .number ≡ 5
+      by (Start d) h = never h
+      by (On s) h = rw (aim-lost t size e gone s h)
+      by Unknown h = never h
+
+  -- ---- the two slips
+
+  module _ (sound : isSound t ≡ true) (j : ℕ) (inside : j < 96) (held : holds (e .call) (recordAt t j) ≡ true) where
+    Freeing : Signal → Type 0
+    Freeing k = (r : Record) (a : Side) → (m : Message) × (turnOn k a r e ≡ Freed m)
+
+    frees : (k : Signal) → ruleOf (e .kind) ≡ On k → aimOn (nextWaiting t) k t e ≡ aimNamed t e → Freeing k
+        → IsAccepted t e × (stepOf t e .answer .state ≡ 0)
+    unfolding Freeing
+    frees k rule named freeing = rw (sound, rule, named) (by (findCall t (e .call)) refl)
+      where
+        at : (i : ℕ) → isFree (recordAt t i .state) ≡ false → (u : Outcome) → turnOn k (sideAt i) (recordAt t i) e ≡ u → (m : Message) → u ≡ Freed m
+            → (carriedOut (On k) t e (To i) .answer .number ≡ 0) × (carriedOut (On k) t e (To i) .answer .state ≡ 0)
+        at i busy u q m f = rw (busy, q, f) (refl, refl)
+
+        by : (f : Found) → findCall t (e .call) ≡ f
+            → (carriedOut (On k) t e (aimAt f CallNotHeld) .answer .number ≡ 0) × (carriedOut (On k) t e (aimAt f CallNotHeld) .answer .state ≡ 0)
+        by (At i) q =
+            let h = found-passes t size (λ n. holds (e .call)) i q in
+            let f = freeing (recordAt t i) (sideAt i) in
+            at i (holds-occupied (e .call) (recordAt t i) (h .1)) (turnOn k (sideAt i) (recordAt t i) e) refl (f .0) (f .1)
+        by Nothing q = absurd (not-both held (none-passes t size (λ n. holds (e .call)) q j inside))
+
+    release-freeing : (e .kind ≡ 7) ⊎ (e .kind ≡ 8) → IsAccepted t e × (stepOf t e .answer .state ≡ 0)
+    unfolding Freeing
+    release-freeing (inl q) = frees ErrorInRelease (rw q) refl (λ r a. by (stageOf r) (isOutstanding r (e .invoke)))
+      where
+        by : (s : Stage) (right : Bool) → (m : Message) × (failedInRelease s right ≡ Freed m)
+        by Waits right = (NoMessage, refl)
+        by AskedHere true = (NoMessage, refl)
+        by AskedHere false = (NoMessage, refl)
+        by (AskedFrom c) true = (PickError c Undefined, refl)
+        by (AskedFrom c) false = (NoMessage, refl)
+        by Taken right = (NoMessage, refl)
+    release-freeing (inr q) = frees Release (rw q) refl (λ r a. (NoMessage, refl))
+
+  -- the result's signal in state 4
+  module _ (kind : e .kind ≡ 5) where
+    result-signal : (k : Signal) (i : ℕ) → Reached t e k i → k ≡ PickupResult
+    result-signal k i at = let five : ruleOf (e .kind) ≡ On PickupResult = rw kind in let both : On k ≡ On PickupResult = sym (at .rule) ∙ five in cc both
+
+    -- what a turn by a result in state 4 comes to
+    remote-turn : (r : Record) (a : Side) → r .state ≡ RemoteRequested
+        → (turnOn PickupResult a r e ≡ Refused NotOutstanding) ⊎ (turnOn PickupResult a r e ≡ Becomes Taken (r .count) (PickResult (r .connection)))
+    remote-turn r a q = rw q (by (isOutstanding r (e .invoke)))
+      where
+        by : (b : Bool) → (ifOutstanding b (Becomes Taken (r .count) (PickResult (r .connection))) ≡ Refused NotOutstanding)
+            ⊎ (ifOutstanding b (Becomes Taken (r .count) (PickResult (r .connection))) ≡ Becomes Taken (r .count) (PickResult (r .connection)))
+        by true = inr refl
+        by false = inl refl
+
+    abbrev Holding : Step → Type 0
+    Holding s = (x : AtOnePlace t s) → recordAt t (x .index) .state ≡ RemoteRequested
+        → (s .answer .state ≡ 5) × (s .answer .message ≡ 5) × (s .answer .connection ≡ recordAt t (x .index) .connection)
+
+    holding : (s : Step) → Stepped t size e s → s .answer .number ≡ 0 → Holding s
+    holding s (kept w) h x q = absurd (refused-not-0 w h)
+    holding s (begun d i sound rule room) h x q =
+        let five : ruleOf (e .kind) ≡ On PickupResult = rw kind in absurd (let z : _≡_ {A = ℕ} 0 1 = cc (sym rule ∙ five) in omega arith)
+    holding s (ended k i m at turn) h x q =
+        let same : x .index ≡ i = sym (same-index i (x .index) (at .inside) (x .inside) (x .place)) in
+        let k-is = result-signal k i at in
+        let t5 : turnOn PickupResult (sideAt i) (recordAt t i) e ≡ Freed m = rw k-is at turn in
+        ⊎-elim (λ g. absurd (let z : _≡_ {A = ℕ} 0 1 = cc (sym t5 ∙ g) in omega arith)) (λ g. absurd (let z : _≡_ {A = ℕ} 0 1 = cc (sym t5 ∙ g) in omega arith))
+        (remote-turn (recordAt t i) (sideAt i) (rw same at q))
+    holding s (went-on k i g n m at turn) h x q =
+        let same : x .index ≡ i = sym (same-index i (x .index) (at .inside) (x .inside) (x .place)) in
+        let k-is = result-signal k i at in
+        let t5 : turnOn PickupResult (sideAt i) (recordAt t i) e ≡ Becomes g n m = rw k-is at turn in
+        ⊎-elim (λ w. absurd (let z : _≡_ {A = ℕ} 0 1 = cc (sym t5 ∙ w) in omega arith))
+        (λ w.
+        let both : Becomes g n m ≡ Becomes Taken (recordAt t i .count) (PickResult (recordAt t i .connection)) = sym t5 ∙ w in
+        let stage : g ≡ Taken = cc both in
+        let said : m ≡ PickResult (recordAt t i .connection) = cc both in
+        rw (stage, said, same) (refl, refl, refl))
+        (remote-turn (recordAt t i) (sideAt i) (rw same at q))
+
+pub keeps-sound : KeepsSound
+keeps-sound t e size sound =
+    test-of-facts (stepOf t e .table) (full t size e (stepOf t e) (stepped t size e))
+    (sound-after t size e (stepOf t e) (stepped t size e) (facts-of-test t size sound))
+
+pub refusal-keeps : RefusalKeeps
+refusal-keeps t e size refused = table-kept t size e (stepOf t e) (stepped t size e) refused
+
+pub accepted-at-one-place : AcceptedAtOnePlace
+accepted-at-one-place t e size accepted = at-one-place t size e (stepOf t e) (stepped t size e) accepted
+
+pub t3-runs-through : T3RunsThrough
+t3-runs-through t e size accepted low = t3 t size e (stepOf t e) (stepped t size e) accepted low
+
+pub matched-by-call : MatchedByCall
+matched-by-call t e size accepted named = matched t size e (stepOf t e) (stepped t size e) accepted named
+
+pub not-held-is-5 : NotHeldIs5
+not-held-is-5 t e size sound named gone = lost-is-5 t size e named gone sound
+
+pub start-answers-its-call : StartAnswersItsCall
+start-answers-its-call t e d size accepted start = own-call t size e d start (stepOf t e) (stepped t size e) accepted
+
+-- aim, turn, call and refusal read no other field than those that the rule names
+module _ (e : Event) where
+  same-aim : (k : Rule) (t : Table) → aim (nextWaiting t) k t (onlyNamed k e) ≡ aim (nextWaiting t) k t e
+  same-aim (Start d) t = refl
+  same-aim (On LocalPickup) t = refl
+  same-aim (On PickRequest) t = refl
+  same-aim (On PickupResult) t = refl
+  same-aim (On PickupError) t = refl
+  same-aim (On ErrorInRelease) t = refl
+  same-aim (On Release) t = refl
+  same-aim (On Answered) t = refl
+  same-aim (On Expiry) t = refl
+  same-aim Unknown t = refl
+
+  same-turn : (k : Rule) (a : Side) (r : Record) → turn k a r (onlyNamed k e) ≡ turn k a r e
+  same-turn (Start d) a r = refl
+  same-turn (On LocalPickup) a r = refl
+  same-turn (On PickRequest) a r = refl
+  same-turn (On PickupResult) a r = refl
+  same-turn (On PickupError) a r = refl
+  same-turn (On ErrorInRelease) a r = refl
+  same-turn (On Release) a r = refl
+  same-turn (On Answered) a r = refl
+  same-turn (On Expiry) a r = refl
+  same-turn Unknown a r = refl
+
+  same-call : (k : Rule) (r : Record) → stayCall k (onlyNamed k e) r ≡ stayCall k e r
+  same-call (Start d) r = refl
+  same-call (On s) r = refl
+  same-call Unknown r = refl
+
+  same-refusal : (t : Table) (k : Rule) → ruleOf (e .kind) ≡ k → (w : Refusal) → refusedBy t (onlyNamed k e) w ≡ refusedBy t e w
+  same-refusal t (Start Position) q w = rw q
+  same-refusal t (Start Line) q w = rw q
+  same-refusal t (On LocalPickup) q w = rw q
+  same-refusal t (On PickRequest) q w = refl
+  same-refusal t (On PickupResult) q w = rw q
+  same-refusal t (On PickupError) q w = rw q
+  same-refusal t (On ErrorInRelease) q w = rw q
+  same-refusal t (On Release) q w = rw q
+  same-refusal t (On Answered) q w = rw q
+  same-refusal t (On Expiry) q w = rw q
+  same-refusal t Unknown q w = rw q
+
+  same-kind : (k : Rule) → onlyNamed k e .kind ≡ e .kind
+  same-kind (Start d) = refl
+  same-kind (On LocalPickup) = refl
+  same-kind (On PickRequest) = refl
+  same-kind (On PickupResult) = refl
+  same-kind (On PickupError) = refl
+  same-kind (On ErrorInRelease) = refl
+  same-kind (On Release) = refl
+  same-kind (On Answered) = refl
+  same-kind (On Expiry) = refl
+  same-kind Unknown = refl
+
+  same-settled : (t : Table) (k : Rule) → ruleOf (e .kind) ≡ k → (i : ℕ) (call : List ℕ) (u : Outcome) → settled t (onlyNamed k e) i call u ≡ settled t e i call u
+  same-settled t k q i call (Refused w) = same-refusal t k q w
+  same-settled t k q i call (Freed m) = refl
+  same-settled t k q i call (Becomes g n m) = refl
+
+  same-carried : (t : Table) (k : Rule) → ruleOf (e .kind) ≡ k → (a : Aim) → carriedOut k t (onlyNamed k e) a ≡ carriedOut k t e a
+  same-carried t k q (Nowhere w) = same-refusal t k q w
+  same-carried t k q (To i) = rw (same-turn k (sideAt i) (recordAt t i), same-call k (recordAt t i)) (same-settled t k q i (stayCall k e (recordAt t i)) (turn k (sideAt i) (recordAt t i) e))
+
+pub ignores-other-fields : IgnoresOtherFields
+ignores-other-fields t e =
+    let k : Rule = ruleOf (e .kind) in
+    let f : Event = onlyNamed k e in
+    let kind : ruleOf (f .kind) ≡ k = ap ruleOf (same-kind e k) in
+    let carried : carriedOut (ruleOf (f .kind)) t f (aim (nextWaiting t) (ruleOf (f .kind)) t f) ≡ carriedOut k t e (aim (nextWaiting t) k t e) =
+    rw (kind, same-aim e k t) (same-carried e t k refl (aim (nextWaiting t) k t e)) in
+    ap₂ (λ x y. cond (isSound t) x y) carried (same-refusal e t k refl TableUnsound)
+
+pub release-frees : ReleaseFrees
+release-frees t e size sound kind j inside held = release-freeing t size e sound j inside held kind
+
+pub remote-result-holds : RemoteResultHolds
+remote-result-holds t e size accepted kind = holding t size e kind (stepOf t e) (stepped t size e) accepted

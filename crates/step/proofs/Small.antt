@@ -1,0 +1,105 @@
+-- How large the numbers of an answer can be: each of its fields comes from a small enumeration, or from the timer table.
+-- Assumes nothing.
+use mathlib.Core.Path.{_≡_, refl}
+use mathlib.Core.Bool.{Bool, true, false, cond}
+use mathlib.Core.List.{List}
+use Prim.Native.Nat.{ℕ, _+_, _≤_}
+use native.Mathlib.Omega.{arith}
+use lib.Dec.{lit≤, ltb}
+use borrow.Author.Tests.{ltb-true}
+use Rattle.table.specs.declared.State.{State}
+use Rattle.table.specs.declared.Side.{Side}
+use Rattle.table.specs.declared.Record.{Record}
+use Rattle.table.specs.declared.Table.{Table}
+use Rattle.table.specs.Places.{noPlace, placeAt, sideAt, noInvoke, freeRecord, recordAt}
+use Rattle.table.specs.Timers.{startedSet}
+use Rattle.table.proofs.Laws.{state-below, timer-below}
+use Rattle.step.specs.declared.Step.{Step}
+use Rattle.step.specs.declared.message.Message.{Message}
+use Rattle.step.specs.declared.message.Message.the-variants.{NoMessage, ParkResult, ParkError, Connect, Facility, PickResult, PickError, ReleaseComplete}
+use Rattle.step.specs.declared.message.ErrorValue.the-variants.{Undefined, CallAlreadyPickedUp}
+use Rattle.step.specs.declared.refusal.Refusal.{Refusal}
+use Rattle.step.specs.declared.refusal.Refusal.the-variants.{UnknownKind, ChoiceOrTimer, CallHeld, SideFull, CallNotHeld, NothingWaits, PickupPending, StateUnfit, NotOutstanding, TimerNotRunning, TableUnsound}
+use Rattle.step.specs.declared.turn.Stage.the-variants.{Waits}
+use Rattle.step.specs.Rule.{ruleOf}
+use Rattle.step.specs.Turn.{heldRecord, greeting}
+use Rattle.step.specs.Message.{messageNumber, messageError}
+use Rattle.step.specs.Refusal.{refusalNumber, refusalMessage}
+use Rattle.step.specs.Step.{saying, done, stepOf}
+use Rattle.step.specs.Promises.{Small, AnswersSmall}
+use Rattle.step.proofs.Stepped.{Stepped, kept, begun, ended, went-on, stepped}
+
+refusal-below : (w : Refusal) → refusalNumber w ≤ 25
+refusal-below UnknownKind = lit≤ tt
+refusal-below ChoiceOrTimer = lit≤ tt
+refusal-below CallHeld = lit≤ tt
+refusal-below SideFull = lit≤ tt
+refusal-below CallNotHeld = lit≤ tt
+refusal-below NothingWaits = lit≤ tt
+refusal-below PickupPending = lit≤ tt
+refusal-below StateUnfit = lit≤ tt
+refusal-below NotOutstanding = lit≤ tt
+refusal-below TimerNotRunning = lit≤ tt
+refusal-below TableUnsound = lit≤ tt
+
+message-below : (m : Message) → messageNumber m ≤ 7
+message-below NoMessage = lit≤ tt
+message-below ParkResult = lit≤ tt
+message-below ParkError = lit≤ tt
+message-below (Connect n) = lit≤ tt
+message-below (Facility n) = lit≤ tt
+message-below (PickResult c) = lit≤ tt
+message-below (PickError c x) = lit≤ tt
+message-below ReleaseComplete = lit≤ tt
+
+error-below : (m : Message) → messageError m ≤ 2
+error-below NoMessage = lit≤ tt
+error-below ParkResult = lit≤ tt
+error-below ParkError = lit≤ tt
+error-below (Connect n) = lit≤ tt
+error-below (Facility n) = lit≤ tt
+error-below (PickResult c) = lit≤ tt
+error-below (PickError c Undefined) = lit≤ tt
+error-below (PickError c CallAlreadyPickedUp) = lit≤ tt
+error-below ReleaseComplete = lit≤ tt
+
+started-below : (a : Side) (s u : State) → startedSet a s u ≤ 7
+started-below a s u = omega (arith, timer-below a u)
+
+place-below : (i : ℕ) → placeAt i .0 ≤ 96
+place-below i = by (ltb i 96) refl
+  where
+    by : (b : Bool) → ltb i 96 ≡ b → cond b (record { 0 = i + 1 }) noPlace .0 ≤ 96
+    by true h = omega (arith, ltb-true i 96 h)
+    by false h = lit≤ tt
+
+pub saying-small : (n : ℕ) (m : Message) → n ≤ 25 → Small (saying n m)
+saying-small n m h = record {
+  number = h;
+  place = lit≤ tt;
+  state = lit≤ tt;
+  message = message-below m;
+  error = error-below m;
+  started = lit≤ tt;
+  stopped = lit≤ tt;
+}
+
+done-small : (t : Table) (i : ℕ) (new : Record) (call : List ℕ) (m : Message) → Small (done t i new call m .answer)
+done-small t i new call m = record {
+  number = lit≤ tt;
+  place = place-below i;
+  state = omega (arith, state-below (new .state));
+  message = message-below m;
+  error = error-below m;
+  started = started-below (sideAt i) (recordAt t i .state) (new .state);
+  stopped = started-below (sideAt i) (new .state) (recordAt t i .state);
+}
+
+pub answers-small : AnswersSmall
+answers-small t e size = by (stepOf t e) (stepped t size e)
+  where
+    by : (s : Step) → Stepped t size e s → Small (s .answer)
+    by s (kept w) = saying-small (refusalNumber w) (refusalMessage (ruleOf (e .kind)) w (e .connection)) (refusal-below w)
+    by s (begun d i sound rule room) = done-small t i (heldRecord (sideAt i) Waits (e .call) noInvoke) (e .call) (greeting d)
+    by s (ended k i m at turn) = done-small t i freeRecord (recordAt t i .call) m
+    by s (went-on k i g n m at turn) = done-small t i (heldRecord (sideAt i) g (recordAt t i .call) n) (recordAt t i .call) m

@@ -1,0 +1,79 @@
+-- Every step, seen as what it is: a refusal that keeps the table, a new stay at a free place, the end of a stay, or a stay that
+-- goes on. All that is promised of a step goes by these four cases.
+-- Assumes nothing.
+use mathlib.Core.Path.{_≡_, refl, sym, ap, _∙_, subst}
+use mathlib.Core.Bool.{Bool, true, false, cond}
+use mathlib.Core.List.{List}
+use Prim.Native.Nat.{ℕ, _<_}
+use native.Mathlib.Omega.{arith}
+use lib.ListN.{length}
+use Rattle.table.specs.declared.Invoke.{Invoke}
+use Rattle.table.specs.declared.Side.{Side}
+use Rattle.table.specs.declared.Table.{Table}
+use Rattle.table.specs.Places.{isFree, sideAt, noInvoke, freeRecord, recordAt}
+use Rattle.table.specs.Sound.{isSound}
+use Rattle.step.specs.declared.Event.{Event}
+use Rattle.step.specs.declared.Step.{Step}
+use Rattle.step.specs.declared.rule.Rule.{Rule}
+use Rattle.step.specs.declared.rule.Rule.the-variants.{Start, On, Unknown}
+use Rattle.step.specs.declared.rule.Signal.{Signal}
+use Rattle.step.specs.declared.message.Message.{Message}
+use Rattle.step.specs.declared.refusal.Refusal.{Refusal}
+use Rattle.step.specs.declared.refusal.Refusal.the-variants.{UnknownKind, CallNotHeld, TableUnsound}
+use Rattle.step.specs.declared.turn.Stage.{Stage}
+use Rattle.step.specs.declared.turn.Stage.the-variants.{Waits}
+use Rattle.step.specs.declared.turn.Outcome.{Outcome}
+use Rattle.step.specs.declared.turn.Outcome.the-variants.{Refused, Freed, Becomes}
+use Rattle.step.specs.declared.aim.Aim.{Aim}
+use Rattle.step.specs.declared.aim.Aim.the-variants.{To, Nowhere}
+use Rattle.step.specs.Rule.{ruleOf}
+use Rattle.step.specs.Turn.{heldRecord, greeting, turnOn}
+use Rattle.step.specs.Aim.{aim, aimNew, aimOn, nextWaiting}
+use Rattle.step.specs.Step.{refusedBy, done, settled, carriedOut, stepOf}
+use Rattle.step.proofs.Aims.{Room, aim-new, aim-on}
+
+-- a signal on a held call: the event's rule, the place, and that it is occupied
+pub record Reached (t : Table) (e : Event) (s : Signal) (i : ℕ) : Type 0 where
+  pub sound : isSound t ≡ true
+  pub rule : ruleOf (e .kind) ≡ On s
+  pub inside : i < 96
+  pub occupied : isFree (recordAt t i .state) ≡ false
+  pub aimed : aimOn (nextWaiting t) s t e ≡ To i
+
+pub data Stepped (t : Table) (size : length (t .places) ≡ 96) (e : Event) : Step → Type 0 where
+  kept : (w : Refusal) → Stepped t size e (refusedBy t e w)
+  begun : (d : Side) (i : ℕ) → isSound t ≡ true → ruleOf (e .kind) ≡ Start d → Room t size d (e .call) i
+      → Stepped t size e (done t i (heldRecord (sideAt i) Waits (e .call) noInvoke) (e .call) (greeting d))
+  ended : (s : Signal) (i : ℕ) (m : Message) → Reached t e s i → turnOn s (sideAt i) (recordAt t i) e ≡ Freed m
+      → Stepped t size e (done t i freeRecord (recordAt t i .call) m)
+  went-on : (s : Signal) (i : ℕ) (g : Stage) (n : Invoke) (m : Message) → Reached t e s i → turnOn s (sideAt i) (recordAt t i) e ≡ Becomes g n m
+      → Stepped t size e (done t i (heldRecord (sideAt i) g (recordAt t i .call) n) (recordAt t i .call) m)
+
+module _ (t : Table) (size : length (t .places) ≡ 96) (e : Event) where
+  module _ (s : Signal) (i : ℕ) (reached : isFree (recordAt t i .state) ≡ false → Reached t e s i) where
+    outcome : (u : Outcome) → isFree (recordAt t i .state) ≡ false → turnOn s (sideAt i) (recordAt t i) e ≡ u → Stepped t size e (settled t e i (recordAt t i .call) u)
+    outcome (Refused w) f q = kept w
+    outcome (Freed m) f q = ended s i m (reached f) q
+    outcome (Becomes g n m) f q = went-on s i g n m (reached f) q
+
+    on-held : (b : Bool) → isFree (recordAt t i .state) ≡ b
+        → Stepped t size e (settled t e i (recordAt t i .call) (cond b (Refused CallNotHeld) (turnOn s (sideAt i) (recordAt t i) e)))
+    on-held true q = kept CallNotHeld
+    on-held false q = outcome (turnOn s (sideAt i) (recordAt t i) e) q refl
+
+  module _ (sound : isSound t ≡ true) where
+    by-aim : (k : Rule) → ruleOf (e .kind) ≡ k → (a : Aim) → aim (nextWaiting t) k t e ≡ a → Stepped t size e (carriedOut k t e a)
+    by-aim k rule (Nowhere w) q = kept w
+    by-aim (Start d) rule (To i) q = begun d i sound rule (aim-new t size d e i q)
+    by-aim (On s) rule (To i) q =
+        on-held s i (λ f. record { sound = sound; rule = rule; inside = aim-on t size s e i q .0; occupied = f; aimed = q }) (isFree (recordAt t i .state)) refl
+    by-aim Unknown rule (To i) q = kept UnknownKind
+
+  -- THE VIEW
+  pub stepped : Stepped t size e (stepOf t e)
+  stepped = by (isSound t) refl
+    where
+      by : (b : Bool) → isSound t ≡ b
+          → Stepped t size e (cond b (carriedOut (ruleOf (e .kind)) t e (aim (nextWaiting t) (ruleOf (e .kind)) t e)) (refusedBy t e TableUnsound))
+      by true q = by-aim q (ruleOf (e .kind)) refl (aim (nextWaiting t) (ruleOf (e .kind)) t e) refl
+      by false q = kept TableUnsound

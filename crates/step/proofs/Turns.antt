@@ -1,0 +1,114 @@
+-- One record: what the record of a stage is like, and that a turn which goes on is one of the five moves.
+-- Assumes nothing.
+use mathlib.Core.Path.{_≡_, refl, sym, ap, _∙_}
+use mathlib.Core.Bool.{Bool, true, false, cond, true≢false}
+use Prim.Native.Nat.{ℕ}
+use native.Mathlib.Omega.{arith}
+use lib.Dec.{eqb}
+use Rattle.table.specs.declared.Connection.{Connection}
+use Rattle.table.specs.declared.Invoke.{Invoke}
+use Rattle.table.specs.declared.State.{State}
+use Rattle.table.specs.declared.State.the-variants.{Free, ParkWaiting, LineWaiting, Requested, RemoteRequested, HandedOver}
+use Rattle.table.specs.declared.Side.{Side}
+use Rattle.table.specs.declared.Side.the-variants.{Position, Line}
+use Rattle.table.specs.declared.Record.{Record}
+use Rattle.table.specs.Places.{stateNumber, isFree, waitingOn, noConnection}
+use Rattle.table.specs.Timers.{timerSet}
+use Rattle.table.specs.Sound.{fitsSide}
+use Rattle.step.specs.declared.Event.{Event}
+use Rattle.step.specs.declared.rule.Signal.{Signal}
+use Rattle.step.specs.declared.rule.Signal.the-variants.{LocalPickup, PickRequest, PickupResult, PickupError, ErrorInRelease, Release, Answered, Expiry}
+use Rattle.step.specs.declared.message.Message.{Message}
+use Rattle.step.specs.declared.message.Message.the-variants.{ReleaseComplete}
+use Rattle.step.specs.declared.refusal.Refusal.the-variants.{StateUnfit, TimerNotRunning}
+use Rattle.step.specs.declared.turn.Stage.{Stage}
+use Rattle.step.specs.declared.turn.Stage.the-variants.{Waits, AskedHere, AskedFrom, Taken}
+use Rattle.step.specs.declared.turn.Outcome.{Outcome}
+use Rattle.step.specs.declared.turn.Outcome.the-variants.{Refused, Freed, Becomes}
+use Rattle.step.specs.Turn.{stateAt, connectionAt, released, failedInRelease, runs, turnOn}
+use Rattle.step.specs.Promises.{offered, Move, goes-on, hands-over, ends, is-left}
+
+pub stage-fits : (a : Side) (g : Stage) → fitsSide a (stateAt a g) ≡ true
+stage-fits Position Waits = refl
+stage-fits Line Waits = refl
+stage-fits Position AskedHere = refl
+stage-fits Line AskedHere = refl
+stage-fits Position (AskedFrom c) = refl
+stage-fits Line (AskedFrom c) = refl
+stage-fits Position Taken = refl
+stage-fits Line Taken = refl
+
+pub free-fits : (a : Side) → fitsSide a Free ≡ true
+free-fits Position = refl
+free-fits Line = refl
+
+pub waiting-offered : (a : Side) → offered (waitingOn a) ≡ true
+waiting-offered Position = refl
+waiting-offered Line = refl
+
+pub stage-occupied : (a : Side) (g : Stage) → isFree (stateAt a g) ≡ false
+stage-occupied Position Waits = refl
+stage-occupied Line Waits = refl
+stage-occupied a AskedHere = refl
+stage-occupied a (AskedFrom c) = refl
+stage-occupied a Taken = refl
+
+-- only state 4 has a connection
+pub stage-connection : (a : Side) (g : Stage) → (stateNumber (stateAt a g) ≡ 4 → ⊥) → connectionAt g ≡ noConnection
+stage-connection a Waits h = refl
+stage-connection a AskedHere h = refl
+stage-connection a (AskedFrom c) h = absurd (h refl)
+stage-connection a Taken h = refl
+
+-- a wrong number in a release is a release, at every stage
+pub wrong-is-release : (s : Stage) → failedInRelease s false ≡ released
+wrong-is-release Waits = refl
+wrong-is-release AskedHere = refl
+wrong-is-release (AskedFrom c) = refl
+wrong-is-release Taken = refl
+
+-- ---- moves
+
+-- the end of a stay
+pub move-end : (s : State) → isFree s ≡ false → Move s Free
+move-end Free h = absurd (true≢false h)
+move-end ParkWaiting h = ends refl
+move-end LineWaiting h = ends refl
+move-end Requested h = ends refl
+move-end RemoteRequested h = ends refl
+move-end HandedOver h = is-left
+
+move-stage : (a : Side) (g : Stage) {s : State} → offered s ≡ true → Move s (stateAt a g)
+move-stage a Waits h = goes-on h (waiting-offered a)
+move-stage a AskedHere h = goes-on h refl
+move-stage a (AskedFrom c) h = goes-on h refl
+move-stage a Taken h = hands-over h
+
+-- from state 5 a stay only ends
+taken-ends : (k : Signal) (a : Side) (r : Record) (e : Event) (g : Stage) (n : Invoke) (m : Message) → r .state ≡ HandedOver → turnOn k a r e ≡ Becomes g n m → ⊥
+taken-ends LocalPickup a r e g n m q h = let w = rw q at h in let z : _≡_ {A = ℕ} 0 1 = cc w in omega arith
+taken-ends PickRequest a r e g n m q h = let w = rw q at h in let z : _≡_ {A = ℕ} 0 1 = cc w in omega arith
+taken-ends PickupResult a r e g n m q h = let w = rw q at h in let z : _≡_ {A = ℕ} 0 1 = cc w in omega arith
+taken-ends PickupError a r e g n m q h = let w = rw q at h in let z : _≡_ {A = ℕ} 0 1 = cc w in omega arith
+taken-ends ErrorInRelease a r e g n m q h = let w = rw q at h in let z : _≡_ {A = ℕ} 0 1 = cc w in omega arith
+taken-ends Release a r e g n m q h = let z : _≡_ {A = ℕ} 0 1 = cc h in omega arith
+taken-ends Answered a r e g n m q h = let w = rw q at h in let z : _≡_ {A = ℕ} 0 1 = cc w in omega arith
+taken-ends Expiry a r e g n m q h = by (runs (timerSet a HandedOver) (e .timer)) (eqb (e .timer) 9) (rw q at h)
+  where
+    by : (x y : Bool) → cond x (cond y (Refused StateUnfit) (Freed ReleaseComplete)) (Refused TimerNotRunning) ≡ Becomes g n m → ⊥
+    by true true w = let z : _≡_ {A = ℕ} 0 1 = cc in omega arith
+    by true false w = let z : _≡_ {A = ℕ} 0 1 = cc in omega arith
+    by false y w = let z : _≡_ {A = ℕ} 0 1 = cc in omega arith
+
+-- a stay that goes on
+pub move-on : (k : Signal) (a : Side) (r : Record) (e : Event) (g : Stage) (n : Invoke) (m : Message) → isFree (r .state) ≡ false
+    → turnOn k a r e ≡ Becomes g n m → Move (r .state) (stateAt a g)
+move-on k a r e g n m f h = move-stage a g (by (r .state) refl f)
+  where
+    by : (s : State) → r .state ≡ s → isFree s ≡ false → offered s ≡ true
+    by Free q w = absurd (true≢false w)
+    by ParkWaiting q w = refl
+    by LineWaiting q w = refl
+    by Requested q w = refl
+    by RemoteRequested q w = refl
+    by HandedOver q w = absurd (taken-ends k a r e g n m q h)

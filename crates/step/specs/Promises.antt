@@ -1,0 +1,189 @@
+-- What is promised of every event at every table, over the machine's definition: one page of statements. Each is proved in
+-- `proofs/Promises.antt` under the name that stands beside it here.
+-- Assumes nothing.
+use mathlib.Core.Path.{_≡_}
+use mathlib.Core.Logic.{_⊎_}
+use mathlib.Core.List.{List}
+use mathlib.Core.Bool.{Bool, true, false, cond}
+use Prim.Native.Nat.{ℕ, _≤_, _<_, _%_}
+use lib.Dec.{eqb}
+use lib.ListN.{length}
+use Rattle.table.specs.declared.Place.{Place}
+use Rattle.table.specs.declared.Connection.{Connection}
+use Rattle.table.specs.declared.Invoke.{Invoke}
+use Rattle.table.specs.declared.State.{State}
+use Rattle.table.specs.declared.State.the-variants.{Free, ParkWaiting, LineWaiting, Requested, RemoteRequested, HandedOver}
+use Rattle.table.specs.declared.Side.{Side}
+use Rattle.table.specs.declared.Table.{Table}
+use Rattle.table.specs.Places.{stateNumber, isFree, placeAt, sideAt, noPlace, noConnection, noInvoke, noCall, recordAt}
+use Rattle.table.specs.Timers.{startedSet, stoppedSet}
+use Rattle.table.specs.Search.{holds}
+use Rattle.table.specs.Sound.{isSound}
+use Rattle.step.specs.declared.Event.{Event}
+use Rattle.step.specs.declared.Answer.{Answer}
+use Rattle.step.specs.declared.Step.{Step}
+use Rattle.step.specs.declared.rule.Rule.{Rule}
+use Rattle.step.specs.declared.rule.Rule.the-variants.{Start, On, Unknown}
+use Rattle.step.specs.declared.rule.Signal.{Signal}
+use Rattle.step.specs.declared.rule.Signal.the-variants.{LocalPickup, PickRequest, PickupResult, PickupError, ErrorInRelease, Release, Answered, Expiry}
+use Rattle.step.specs.Rule.{ruleOf}
+use Rattle.step.specs.Aim.{isTimer}
+use Rattle.step.specs.Step.{stepOf}
+
+-- a table has 96 places; of a table in code its type says so
+abbrev pub Full : Table → Type 0
+Full t = length (t .places) ≡ 96
+
+-- the event is done; any other number is a refusal
+abbrev pub IsAccepted : Table → Event → Type 0
+IsAccepted t e = stepOf t e .answer .number ≡ 0
+
+-- `keeps-sound`: from a sound table a sound table, by all kinds of event
+abbrev pub KeepsSound : Type 0
+KeepsSound = (t : Table) (e : Event) → Full t → isSound t ≡ true → isSound (stepOf t e .table) ≡ true
+
+-- `refusal-keeps`: "Each refusal keeps the table."
+abbrev pub RefusalKeeps : Type 0
+RefusalKeeps = (t : Table) (e : Event) → Full t → (IsAccepted t e → ⊥) → stepOf t e .table ≡ t
+
+-- ---- an accepted event
+
+-- on offer: held, and nobody has taken the call yet
+abbrev pub offered : State → Bool
+offered Free = false
+offered ParkWaiting = true
+offered LineWaiting = true
+offered Requested = true
+offered RemoteRequested = true
+offered HandedOver = false
+
+-- the five moves: a stay starts, goes on, is handed over, ends, or is left after it was handed over
+pub data Move : State → State → Type 0 where
+  starts : {after : State} → offered after ≡ true → Move Free after
+  goes-on : {before after : State} → offered before ≡ true → offered after ≡ true → Move before after
+  hands-over : {before : State} → offered before ≡ true → Move before HandedOver
+  ends : {before : State} → offered before ≡ true → Move before Free
+  is-left : Move HandedOver Free
+
+-- all that an accepted event does is at one place: from table t the step s
+pub record AtOnePlace (t : Table) (s : Step) : Type 0 where
+  pub index : ℕ
+  pub inside : index < 96
+  pub place : s .answer .place ≡ placeAt index
+  -- no other record changes
+  pub others : (j : ℕ) → (j ≡ index → ⊥) → recordAt (s .table) j ≡ recordAt t j
+  -- the answer's state is the one after the event
+  pub state : s .answer .state ≡ stateNumber (recordAt (s .table) index .state)
+  pub move : Move (recordAt t index .state) (recordAt (s .table) index .state)
+  -- a stay has one call: the answer's is the record's, before and after
+  pub call-before : isFree (recordAt t index .state) ≡ false → recordAt t index .call ≡ s .answer .call
+  pub call-after : isFree (recordAt (s .table) index .state) ≡ false → recordAt (s .table) index .call ≡ s .answer .call
+  -- the timers are those of the two entries
+  pub started : s .answer .started ≡ startedSet (sideAt index) (recordAt t index .state) (recordAt (s .table) index .state)
+  pub stopped : s .answer .stopped ≡ stoppedSet (sideAt index) (recordAt t index .state) (recordAt (s .table) index .state)
+
+-- `accepted-at-one-place`
+abbrev pub AcceptedAtOnePlace : Type 0
+AcceptedAtOnePlace = (t : Table) (e : Event) → Full t → IsAccepted t e → AtOnePlace t (stepOf t e)
+
+-- ---- T3
+
+abbrev pub one-if : Bool → ℕ
+one-if b = cond b 1 0
+
+-- `t3-runs-through`: at a park position T3 is started by the park and by nothing else, and is stopped where the place is freed and
+-- nowhere else: not by a pickup request, nor does its refusal start it again
+abbrev pub T3RunsThrough : Type 0
+T3RunsThrough = (t : Table) (e : Event) → Full t → IsAccepted t e → stepOf t e .answer .place .0 ≤ 64
+    → (stepOf t e .answer .started % 2 ≡ one-if (eqb (e .kind) 1)) × (stepOf t e .answer .stopped % 2 ≡ one-if (eqb (stepOf t e .answer .state) 0))
+
+-- ---- matching
+
+-- kinds 5 to 10, and kinds 3 and 4 with choice 0
+abbrev pub namesCall : Rule → Event → Bool
+namesCall (Start d) e = false
+namesCall (On LocalPickup) e = eqb (e .choice) 0
+namesCall (On PickRequest) e = eqb (e .choice) 0
+namesCall (On PickupResult) e = true
+namesCall (On PickupError) e = true
+namesCall (On ErrorInRelease) e = true
+namesCall (On Release) e = true
+namesCall (On Answered) e = true
+namesCall (On Expiry) e = isTimer (e .timer)
+namesCall Unknown e = false
+
+abbrev pub byName : Event → Bool
+byName e = namesCall (ruleOf (e .kind)) e
+
+-- `matched-by-call`: an accepted event that names a call touches the place that holds that call, and its answer carries it
+abbrev pub MatchedByCall : Type 0
+MatchedByCall = (t : Table) (e : Event) → Full t → IsAccepted t e → byName e ≡ true
+    → (x : AtOnePlace t (stepOf t e)) → (holds (e .call) (recordAt t (x .index)) ≡ true) × (stepOf t e .answer .call ≡ e .call)
+
+-- `not-held-is-5`: a call that is in no place is refused by 5, whatever stands anywhere
+abbrev pub NotHeldIs5 : Type 0
+NotHeldIs5 = (t : Table) (e : Event) → Full t → isSound t ≡ true → byName e ≡ true
+    → ((j : ℕ) → j < 96 → holds (e .call) (recordAt t j) ≡ false) → stepOf t e .answer .number ≡ 5
+
+-- `start-answers-its-call`: a park or an alert is answered with the call that it brings
+abbrev pub StartAnswersItsCall : Type 0
+StartAnswersItsCall = (t : Table) (e : Event) (d : Side) → Full t → IsAccepted t e → ruleOf (e .kind) ≡ Start d → stepOf t e .answer .call ≡ e .call
+
+-- ---- the fields of an event
+
+-- the event with zeros in the fields that its kind does not name
+abbrev pub withFields : ℕ → List ℕ → Place → ℕ → Connection → Invoke → ℕ → Event
+withFields kind call place choice connection invoke timer = record {
+  kind = kind;
+  call = call;
+  place = place;
+  choice = choice;
+  connection = connection;
+  invoke = invoke;
+  timer = timer;
+}
+
+abbrev pub onlyNamed : Rule → Event → Event
+onlyNamed (Start d) e = withFields (e .kind) (e .call) (e .place) 0 noConnection noInvoke 0
+onlyNamed (On LocalPickup) e = withFields (e .kind) (e .call) noPlace (e .choice) noConnection noInvoke 0
+onlyNamed (On PickRequest) e = withFields (e .kind) (e .call) noPlace (e .choice) (e .connection) noInvoke 0
+onlyNamed (On PickupResult) e = withFields (e .kind) (e .call) noPlace 0 noConnection (e .invoke) 0
+onlyNamed (On PickupError) e = withFields (e .kind) (e .call) noPlace 0 noConnection (e .invoke) 0
+onlyNamed (On ErrorInRelease) e = withFields (e .kind) (e .call) noPlace 0 noConnection (e .invoke) 0
+onlyNamed (On Release) e = withFields (e .kind) (e .call) noPlace 0 noConnection noInvoke 0
+onlyNamed (On Answered) e = withFields (e .kind) (e .call) noPlace 0 noConnection noInvoke 0
+onlyNamed (On Expiry) e = withFields (e .kind) (e .call) noPlace 0 noConnection noInvoke (e .timer)
+onlyNamed Unknown e = withFields (e .kind) noCall noPlace 0 noConnection noInvoke 0
+
+-- `ignores-other-fields`: "Fields that a kind does not name are ignored."
+abbrev pub IgnoresOtherFields : Type 0
+IgnoresOtherFields = (t : Table) (e : Event) → stepOf t (onlyNamed (ruleOf (e .kind)) e) ≡ stepOf t e
+
+-- ---- two slips that have happened
+
+-- `release-frees`: a RELEASE COMPLETE for a held call frees its place, whatever number the error inside it carries
+abbrev pub ReleaseFrees : Type 0
+ReleaseFrees = (t : Table) (e : Event) → Full t → isSound t ≡ true → (e .kind ≡ 7) ⊎ (e .kind ≡ 8)
+    → (j : ℕ) → j < 96 → holds (e .call) (recordAt t j) ≡ true → IsAccepted t e × (stepOf t e .answer .state ≡ 0)
+
+-- `remote-result-holds`: an accepted result in state 4 does not free the place: it goes to state 5, and the picker's own connection
+-- is told
+abbrev pub RemoteResultHolds : Type 0
+RemoteResultHolds = (t : Table) (e : Event) → Full t → IsAccepted t e → e .kind ≡ 5
+    → (x : AtOnePlace t (stepOf t e)) → recordAt t (x .index) .state ≡ RemoteRequested
+    → (stepOf t e .answer .state ≡ 5) × (stepOf t e .answer .message ≡ 5) × (stepOf t e .answer .connection ≡ recordAt t (x .index) .connection)
+
+-- ---- how large an answer's numbers are
+
+pub record Small (a : Answer) : Type 0 where
+  pub number : a .number ≤ 25
+  pub place : a .place .0 ≤ 96
+  pub state : a .state ≤ 5
+  pub message : a .message ≤ 7
+  pub error : a .error ≤ 2
+  pub started : a .started ≤ 7
+  pub stopped : a .stopped ≤ 7
+
+-- `answers-small`: of every table and event, refused ones too
+abbrev pub AnswersSmall : Type 0
+AnswersSmall = (t : Table) (e : Event) → Full t → Small (stepOf t e .answer)
