@@ -10,6 +10,7 @@ use table::Side;
 use table::State;
 use table::timers;
 ghost use mathlib.Core.Path.{_≡_};
+ghost use Rattle.step.specs.declared.message.Message.the-variants.{NoMessage};
 ghost use Rattle.step.specs.Rule.{ruleOf};
 ghost use Rattle.step.specs.Refusal.{refusalNumber, refusalMessage};
 ghost use Rattle.step.specs.Step.{accepted, saying};
@@ -56,4 +57,11 @@ pub(crate) fn decline(e: Event, w: Refusal) -> Answer
 {
     let k = rule::rule_of(e.kind);
     say(w.number(), w.message(k, e.connection))
+}
+
+// The answer with zeros everywhere but its number: to a line or an image that is refused.
+pub fn only_number(number: u8) -> Answer
+    ensures { λ r. ⌜ r ≡ saying number NoMessage ⌝ }
+{
+    say(number, Message::NoMessage)
 }

@@ -1,4 +1,4 @@
--- Of every public function: two results that meet its contract are equal. Each contract is an equation with a definition.
+-- Of every public function: two results that meet its contract are equal, since each contract is an equation with a definition.
 -- Assumes nothing.
 use mathlib.Core.Path.{sym, _∙_}
 use Rattle.laws.specs.Decides.{Decides}
@@ -18,47 +18,38 @@ use Rattle.table.proofs.search.lowest_in.Reads as lowest-in
 use Rattle.table.proofs.sound.is_sound.Reads as is-sound
 use Rattle.table.proofs.status.status_of.Reads as status-of
 
-pub state-number-decided : Decides state-number.Post
-state-number-decided κ a x y d e p q = p ∙ sym q
+pub record Decided : Type 0 where
+  pub number-decided : Decides state-number.Post
+  pub is-free-decided : Decides is-free.Post
+  pub waiting-decided : Decides waiting.Post
+  pub side-at-decided : Decides side-at.Post
+  pub is-of-decided : Decides is-of.Post
+  pub side-decided : Decides side.Post
+  pub place-at-decided : Decides place-at.Post
+  pub free-decided : Decides free.Post
+  pub empty-decided : Decides empty.Post
+  pub timer-set-decided : Decides timer-set.Post
+  pub started-decided : Decides started.Post
+  pub find-call-decided : Decides find-call.Post
+  pub lowest-in-decided : Decides lowest-in.Post
+  pub is-sound-decided : Decides is-sound.Post
+  pub status-of-decided : Decides status-of.Post
 
-pub is-free-decided : Decides is-free.Post
-is-free-decided κ a x y d e p q = p ∙ sym q
-
-pub waiting-decided : Decides waiting.Post
-waiting-decided κ a x y d e p q = p ∙ sym q
-
-pub side-at-decided : Decides side-at.Post
-side-at-decided κ a x y d e p q = p ∙ sym q
-
-pub is-of-decided : Decides is-of.Post
-is-of-decided κ a x y d e p q = p ∙ sym q
-
-pub side-decided : Decides side.Post
-side-decided κ a x y d e p q = p ∙ sym q
-
-pub place-at-decided : Decides place-at.Post
-place-at-decided κ a x y d e p q = p ∙ sym q
-
-pub free-decided : Decides free.Post
-free-decided κ a x y d e p q = p ∙ sym q
-
-pub empty-decided : Decides empty.Post
-empty-decided κ a x y d e p q = p ∙ sym q
-
-pub timer-set-decided : Decides timer-set.Post
-timer-set-decided κ a x y d e p q = p ∙ sym q
-
-pub started-decided : Decides started.Post
-started-decided κ a x y d e p q = p ∙ sym q
-
-pub find-call-decided : Decides find-call.Post
-find-call-decided κ a x y d e p q = p ∙ sym q
-
-pub lowest-in-decided : Decides lowest-in.Post
-lowest-in-decided κ a x y d e p q = p ∙ sym q
-
-pub is-sound-decided : Decides is-sound.Post
-is-sound-decided κ a x y d e p q = p ∙ sym q
-
-pub status-of-decided : Decides status-of.Post
-status-of-decided κ a x y d e p q = p ∙ sym q
+pub decided : Decided
+decided = record {
+  number-decided = λ κ a x y d e p q. p ∙ sym q;
+  is-free-decided = λ κ a x y d e p q. p ∙ sym q;
+  waiting-decided = λ κ a x y d e p q. p ∙ sym q;
+  side-at-decided = λ κ a x y d e p q. p ∙ sym q;
+  is-of-decided = λ κ a x y d e p q. p ∙ sym q;
+  side-decided = λ κ a x y d e p q. p ∙ sym q;
+  place-at-decided = λ κ a x y d e p q. p ∙ sym q;
+  free-decided = λ κ a x y d e p q. p ∙ sym q;
+  empty-decided = λ κ a x y d e p q. p ∙ sym q;
+  timer-set-decided = λ κ a x y d e p q. p ∙ sym q;
+  started-decided = λ κ a x y d e p q. p ∙ sym q;
+  find-call-decided = λ κ a x y d e p q. p ∙ sym q;
+  lowest-in-decided = λ κ a x y d e p q. p ∙ sym q;
+  is-sound-decided = λ κ a x y d e p q. p ∙ sym q;
+  status-of-decided = λ κ a x y d e p q. p ∙ sym q;
+}
