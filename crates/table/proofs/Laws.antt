@@ -1,5 +1,6 @@
 -- One step of each definition that a loop follows, at index i of a list, and its end past the list; bounds of a place's share in
--- the sums; what the types say of a table's length. Assumes nothing.
+-- the sums.
+-- Assumes nothing.
 use mathlib.Core.Path.{_≡_, sym, _∙_}
 use mathlib.Core.Bool.{Bool, true, false, cond, _&&_}
 use mathlib.Core.List.{List, map}
@@ -8,7 +9,7 @@ use native.Mathlib.Numerals.{add-one}
 use native.Mathlib.Omega.{arith}
 use lib.Dec.{eqb, lit<, lit≤}
 use lib.Count.{ones, ones-le}
-use lib.ListN.{length, drop, getD, drop-of-length-le, length-map}
+use lib.ListN.{length, drop, getD, drop-of-length-le}
 use lib.Seq.{drop-cons}
 use Rattle.table.specs.declared.State.{State}
 use Rattle.table.specs.declared.State.the-variants.{Free, ParkWaiting, LineWaiting, Requested, RemoteRequested, HandedOver}
@@ -20,10 +21,6 @@ use Rattle.table.specs.Places.{stateNumber, sideIndex, blank}
 use Rattle.table.specs.Timers.{timerSet}
 use Rattle.table.specs.Search.{sameCall, lowest, every, total}
 use Rattle.table.specs.Status.{waitsIn}
-
--- a list of structs is as long as its type says
-pub length-mapped : {X Y : Type 0} (f : X → Y) (l : List X) (n : ℕ) → length (map f l) ≡ n → length l ≡ n
-length-mapped f l n p = sym (length-map l f) ∙ p
 
 pub same-at : (a b : List ℕ) (i : ℕ) → i < length a → i < length b
     → sameCall (drop i a) (drop i b) ≡ eqb (getD a i 0) (getD b i 0) && sameCall (drop (i + 1) a) (drop (i + 1) b)

@@ -2,7 +2,7 @@
 -- Assumes nothing.
 use mathlib.Core.Path.{_≡_, sym, _∙_}
 use lib.ListN.{length}
-use Rattle.table.proofs.Laws.{length-mapped}
+use Rattle.laws.proofs.Runs.{length-mapped}
 use Rattle.step.proofs.Aims.{aim-inside}
 use borrow.Author.Needs.{needs}
 use Rattle.step.proofs.single_step.Statement.{statement}

@@ -4,7 +4,8 @@ use mathlib.Core.Path.{_≡_, refl, sym, _∙_}
 use Prim.Native.Nat.{_-_}
 use lib.ListN.{drop, length}
 use Rattle.table.specs.Search.{lowest, isAt}
-use Rattle.table.proofs.Laws.{length-mapped, lowest-at, lowest-end}
+use Rattle.laws.proofs.Runs.{length-mapped}
+use Rattle.table.proofs.Laws.{lowest-at, lowest-end}
 use borrow.Author.Needs.{needs}
 use native.Mathlib.Omega.{arith}
 use Rattle.table.proofs.search.lowest_in.Statement.{statement}

@@ -9,7 +9,8 @@ use Rattle.table.specs.declared.Record.{Record}
 use Rattle.table.specs.Places.{recordAt}
 use Rattle.table.specs.Search.{every}
 use Rattle.table.specs.Sound.{unlike}
-use Rattle.table.proofs.Laws.{length-mapped, every-fail, every-pass, every-end}
+use Rattle.laws.proofs.Runs.{length-mapped}
+use Rattle.table.proofs.Laws.{every-fail, every-pass, every-end}
 use Rattle.table.proofs.KeyLaws.{free-apart, pass-keys}
 use borrow.Author.Needs.{needs}
 use native.Mathlib.Omega.{arith}

@@ -6,7 +6,8 @@ use lib.ListN.{drop, length}
 use borrow.Author.Tests.{not-true, not-false}
 use Rattle.table.specs.Search.{every}
 use Rattle.table.specs.Sound.{apartFromLater}
-use Rattle.table.proofs.Laws.{length-mapped, every-fail, every-pass, every-end}
+use Rattle.laws.proofs.Runs.{length-mapped}
+use Rattle.table.proofs.Laws.{every-fail, every-pass, every-end}
 use borrow.Author.Needs.{needs}
 use native.Mathlib.Omega.{arith}
 use Rattle.table.proofs.sound.calls_apart.Statement.{statement}

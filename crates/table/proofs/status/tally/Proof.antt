@@ -10,7 +10,8 @@ use Rattle.table.specs.declared.Side.the-variants.{Position, Line}
 use Rattle.table.specs.Places.{blank, sideAt}
 use Rattle.table.specs.Search.{total, isAt}
 use Rattle.table.specs.Status.{freeOn, waitsAt, runningAt}
-use Rattle.table.proofs.Laws.{length-mapped, total-at, total-end, one-or-none, waits-le, ones-few}
+use Rattle.laws.proofs.Runs.{length-mapped}
+use Rattle.table.proofs.Laws.{total-at, total-end, one-or-none, waits-le, ones-few}
 use borrow.Author.Needs.{needs}
 use native.Mathlib.Omega.{arith}
 use Rattle.table.proofs.status.tally.Statement.{statement}

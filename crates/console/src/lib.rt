@@ -1,0 +1,72 @@
+// A session over standard input and standard output: all that a read brought is answered before the next read waits, and the answers go
+// out in blocks. No contract can say what is read or written; what is answered to what is `session`'s.
+
+use libc::STDIN_FILENO;
+use libc::STDOUT_FILENO;
+use session::Session;
+ghost use Prim.Native.Nat.{_≤_};
+ghost use lib.ListN.{length};
+
+// What one read came to, and the session after it.
+struct Turn {
+    ended: bool,
+    failed: bool,
+    session: Session,
+}
+
+// A count of octets that the buffer has.
+fn within(n: usize, buf: &[u8]) -> usize
+    ensures { λ r. ⌜ r ≤ length (now (buf .entry)) ⌝ }
+{
+    if n < buf.len() { n } else { buf.len() }
+}
+
+// Reads once, and writes what is answered to it. The answers to 1,024 octets fit 65,536: none is longer than 61.
+fn answer_some(s: Session) -> Turn {
+    let mut piece = [0u8; 1024];
+    let mut out = io::large_buffer();
+    let got = libc::read(STDIN_FILENO, &mut piece);
+    let n = io::count(got, &piece);
+    if n == 0 {
+        return Turn {
+            ended: true,
+            failed: false,
+            session: s,
+        };
+    }
+    let fed = session::feed(s, &piece[..n], &mut out);
+    let next = fed.session;
+    let count = within(fed.written, &out);
+    let written = io::write_all(STDOUT_FILENO, &out[..count]);
+    Turn {
+        ended: false,
+        failed: !written,
+        session: next,
+    }
+}
+
+// Answers a last line that lacks its feed.
+fn answer_last(s: Session) {
+    let mut out = [0u8; 64];
+    let count = within(session::finish(s, &mut out), &out);
+    io::write_all(STDOUT_FILENO, &out[..count]);
+}
+
+// Answers standard input to its end, from the empty table. A failed write ends it. A proved loop has to end, and nothing says that the
+// input does: the turns are counted down from a number that no run uses up.
+pub fn answer_all() {
+    let mut s = Session::start();
+    let mut turns = u64::MAX;
+    while turns > 0 {
+        let t = answer_some(s);
+        s = t.session;
+        if t.failed {
+            return;
+        }
+        if t.ended {
+            answer_last(s);
+            return;
+        }
+        turns -= 1;
+    }
+}

@@ -1,0 +1,2 @@
+pub mod WritesBack
+pub mod Unique

@@ -1,0 +1,20 @@
+-- Of every public function: two results that meet its contract are equal, and so are the octets that two runs leave in a lent
+-- buffer. Each contract is an equation with a definition, of the result and of the buffer at exit.
+-- Assumes nothing.
+use mathlib.Core.Path.{refl, sym, _∙_}
+use denote.Ref.{now}
+use Rattle.laws.specs.Decides.{Decides, DecidesMemory}
+use Rattle.image.proofs.read_image.Reads as read-image
+use Rattle.image.proofs.write_image.Reads as write-image
+use Rattle.image.proofs.write_place.Reads as write-place
+
+pub read-image-decided : Decides read-image.Post
+read-image-decided κ a x y d e p q = p ∙ sym q
+
+-- the buffer is the second parameter
+pub write-image-decided : DecidesMemory write-image.Post (λ κ d. now (d .1 .0))
+write-image-decided κ a x y d e p q = (p .0 ∙ sym (q .0), p .1 ∙ sym (q .1))
+
+-- the buffer is the third parameter
+pub write-place-decided : DecidesMemory write-place.Post (λ κ d. now (d .1 .1 .0))
+write-place-decided κ a x y d e p q = (refl, p ∙ sym q)

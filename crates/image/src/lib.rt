@@ -1,0 +1,115 @@
+// The table image: 96 times 21 octets. What stands where is defined in specs/, from document 01's "Image".
+
+pub mod octets;
+
+use table::Record;
+use table::Table;
+use table::sound;
+ghost use mathlib.Core.Path.{_≡_};
+ghost use Prim.Native.Nat.{_≤_, _<_};
+ghost use lib.ListN.{length};
+ghost use lib.Seq.{sets};
+ghost use Rattle.table.specs.Places.{emptyTable};
+ghost use Rattle.image.specs.Image.{octetsOfAll, imageOf, writtenNumber, written, placeWritten, recordsFrom, statesFit, tableFrom, readImage};
+
+// What reading an image gives: number 0 and its table, or 25 and the empty table.
+pub struct ReadImage {
+    pub number: u8,
+    pub table: Table,
+}
+
+fn refuse() -> ReadImage
+    ensures { λ r. ⌜ r ≡ record { number = 25; table = emptyTable } ⌝ }
+{
+    ReadImage {
+        number: 25,
+        table: Table::empty(),
+    }
+}
+
+// Is no state octet above 5?
+fn states_fit(image: &[u8]) -> bool
+    requires { ⌜ length (now image) ≡ 2016 ⌝ }
+    ensures { λ r. ⌜ r ≡ statesFit (now (image .entry)) 0 96 ⌝ }
+{
+    let mut i: usize = 0;
+    while i < Table::PLACES {
+        if 5 < image[i * 21] {
+            return false;
+        }
+        i += 1;
+    }
+    true
+}
+
+// The table of an image of the right length.
+fn read_places(image: &[u8]) -> Table
+    requires { ⌜ length (now image) ≡ 2016 ⌝ }
+    ensures { λ r. ⌜ r ≡ tableFrom (now (image .entry)) ⌝ }
+{
+    let mut places = [Record::free(); Table::PLACES];
+    let mut i: usize = 0;
+    while i < Table::PLACES {
+        places[i] = octets::read_record(image, i * 21);
+        i += 1;
+    }
+    Table { places }
+}
+
+// The table that an image says, or its refusal.
+pub fn read_image(image: &[u8]) -> ReadImage
+    ensures { λ r. ⌜ r ≡ readImage (now (image .entry)) ⌝ }
+{
+    if image.len() != 2016 {
+        return refuse();
+    }
+    if !states_fit(image) {
+        return refuse();
+    }
+    let t = read_places(image);
+    if sound::is_sound(t) {
+        ReadImage {
+            number: 0,
+            table: t,
+        }
+    } else {
+        refuse()
+    }
+}
+
+fn put_places(t: Table, out: &mut [u8])
+    requires { ⌜ length (now out) ≡ 2016 ⌝ }
+    ensures { λ _. ⌜ now (out .exit) ≡ imageOf t ⌝ }
+{
+    let mut i: usize = 0;
+    while i < Table::PLACES {
+        let r = t.places[i];
+        octets::put_record(out, i * 21, r);
+        i += 1;
+    }
+}
+
+// Writes the image of a sound table into a buffer of its length, and gives 0; otherwise it gives 25 and leaves the buffer as found.
+pub fn write_image(t: Table, out: &mut [u8]) -> u8
+    ensures { λ r. ⌜ (r ≡ writtenNumber t (now (out .entry))) × (now (out .exit) ≡ written t (now (out .entry))) ⌝ }
+{
+    if out.len() != 2016 {
+        return 25;
+    }
+    if !sound::is_sound(t) {
+        return 25;
+    }
+    put_places(t, out);
+    0
+}
+
+// Writes the octets of one place, given by its index, and leaves the others; does nothing where there is no such place.
+pub fn write_place(i: usize, r: Record, image: &mut [u8])
+    ensures { λ _. ⌜ now (image .exit) ≡ placeWritten i r (now (image .entry)) ⌝ }
+{
+    if image.len() == 2016 {
+        if i < Table::PLACES {
+            octets::put_record(image, i * 21, r);
+        }
+    }
+}

@@ -1,0 +1,12 @@
+pub mod Passed
+pub mod FieldLaws
+pub mod NumberLaws
+pub mod CallLaws
+pub mod Joined
+pub mod Decimal
+pub mod Hexadecimal
+pub mod Lengths
+pub mod Rests
+pub mod Round
+pub mod Unique
+pub mod LineSteps

@@ -1,0 +1,6 @@
+pub mod Fields
+pub mod Numbers
+pub mod Calls
+pub mod EventLine
+pub mod AnswerLine
+pub mod LineStep

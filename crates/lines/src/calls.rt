@@ -1,0 +1,115 @@
+// Calls as 32 lowercase hexadecimal digits.
+
+use crate::fields;
+ghost use mathlib.Core.Path.{_≡_};
+ghost use mathlib.Core.List.{_++_, _∷_, []};
+ghost use Prim.Native.Nat.{_+_, _/_, _%_, _<_};
+ghost use lib.ListN.{length};
+ghost use lib.Seq.{sets};
+ghost use Rattle.lines.specs.Fields.{before};
+ghost use Rattle.lines.specs.Calls.{nibbleOf, callOf, digitOf, hexOf};
+
+pub struct ReadCall {
+    pub good: bool,
+    pub call: [u8; 16],
+}
+
+// The value of a lowercase hexadecimal digit, 16 for an octet that is none.
+fn nibble(x: u8) -> u8
+    ensures { λ r. ⌜ r ≡ nibbleOf x ⌝ }
+{
+    if x < 48 {
+        return 16;
+    }
+    if x < 58 {
+        return x - 48;
+    }
+    if x < 97 {
+        return 16;
+    }
+    if x < 103 {
+        return x - 87;
+    }
+    16
+}
+
+// The call that a field says.
+pub fn read_call(part: &[u8]) -> ReadCall
+    ensures { λ r. ⌜ r ≡ callOf (now (part .entry)) ⌝ }
+{
+    let mut a = [0u8; 16];
+    if part.len() != 32 {
+        return ReadCall {
+            good: false,
+            call: a,
+        };
+    }
+    let mut i: usize = 0;
+    while i < 16 {
+        let h = nibble(part[i * 2]);
+        let l = nibble(part[i * 2 + 1]);
+        if 15 < h {
+            return ReadCall {
+                good: false,
+                call: [0u8; 16],
+            };
+        }
+        if 15 < l {
+            return ReadCall {
+                good: false,
+                call: [0u8; 16],
+            };
+        }
+        a[i] = h * 16 + l;
+        i += 1;
+    }
+    ReadCall {
+        good: true,
+        call: a,
+    }
+}
+
+// The call that the first field of a line says.
+pub(crate) fn first_call(s: &[u8]) -> ReadCall
+    ensures { λ r. ⌜ r ≡ callOf (before (now (s .entry))) ⌝ }
+{
+    read_call(fields::first_field(s))
+}
+
+// The digit of a value below 16.
+fn digit(n: u8) -> u8
+    requires { ⌜ n < 16 ⌝ }
+    ensures { λ r. ⌜ r ≡ digitOf n ⌝ }
+{
+    if n < 10 { 48 + n } else { 87 + n }
+}
+
+fn high_digit(b: u8) -> u8
+    ensures { λ r. ⌜ r ≡ digitOf (b / 16) ⌝ }
+{
+    digit(b / 16)
+}
+
+fn low_digit(b: u8) -> u8
+    ensures { λ r. ⌜ r ≡ digitOf (b % 16) ⌝ }
+{
+    digit(b % 16)
+}
+
+// Writes a call and a tab from an index of the buffer on, and gives the index after it.
+pub(crate) fn put_call_tab(out: &mut [u8], at: usize, call: [u8; 16]) -> usize
+    requires { ⌜ at + 32 < length (now out) ⌝ }
+    ensures { λ r. ⌜ (r ≡ at + 33) × (now (out .exit) ≡ sets (now (out .entry)) at (hexOf call ++ (9 ∷ []))) ⌝ }
+{
+    let mut i: usize = 0;
+    let mut p = at;
+    while i < 16 {
+        let b = call[i];
+        out[p] = high_digit(b);
+        out[p + 1] = low_digit(b);
+        p += 2;
+        i += 1;
+    }
+    out[p] = 9;
+    p + 1
+}

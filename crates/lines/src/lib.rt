@@ -1,0 +1,203 @@
+// Event lines and answer lines as octets. A line is read field by field, each handed on as the part of the line that it is
+// (`fields`), by the reader of numbers (`numbers`) or of calls (`calls`). What a line means is defined in specs/, from document 01's
+// "Lines, image, status" and refusals 21 to 24.
+
+pub mod calls;
+pub mod fields;
+pub mod numbers;
+
+use numbers::Number;
+use step::Answer;
+use step::Event;
+use step::Step;
+use step::answers;
+use table::Connection;
+use table::Invoke;
+use table::Place;
+use table::Table;
+ghost use mathlib.Core.Path.{_≡_};
+ghost use mathlib.Core.Bool.{cond};
+ghost use Prim.Native.Nat.{_≤_};
+ghost use lib.Dec.{ltb};
+ghost use lib.ListN.{length};
+ghost use lib.Seq.{sets};
+ghost use Rattle.lines.specs.EventLine.{unread, readLine, eventLine};
+ghost use Rattle.lines.specs.AnswerLine.{answerLine};
+ghost use Rattle.lines.specs.LineStep.{lineStep};
+
+// What reading a line gives: number 0 and the event, or the refusal and the event of all zeros.
+pub struct ReadEvent {
+    pub number: u8,
+    pub event: Event,
+}
+
+// A refusal, with the event of all zeros.
+fn refuse(number: u8) -> ReadEvent
+    ensures { λ r. ⌜ r ≡ unread number ⌝ }
+{
+    ReadEvent {
+        number,
+        event: Event {
+            kind: 0,
+            call: [0; 16],
+            place: Place(0),
+            choice: 0,
+            connection: Connection(0),
+            invoke: Invoke(0),
+            timer: 0,
+        },
+    }
+}
+
+// The event that a line says, or its refusal. The line comes without its line feed.
+pub fn read_event(line: &[u8]) -> ReadEvent
+    ensures { λ r. ⌜ r ≡ readLine (now (line .entry)) ⌝ }
+{
+    if 62 < line.len() {
+        return refuse(21);
+    }
+    if fields::count_tabs(line) != 6 {
+        return refuse(22);
+    }
+    let Number::Is(kind) = numbers::first_number(line, 255) else {
+        return refuse(23);
+    };
+    let from2 = fields::after_tab(line);
+    let c = calls::first_call(from2);
+    if !c.good {
+        return refuse(24);
+    }
+    let from3 = fields::after_tab(from2);
+    let Number::Is(place) = numbers::first_number(from3, 65535) else {
+        return refuse(23);
+    };
+    let from4 = fields::after_tab(from3);
+    let Number::Is(choice) = numbers::first_number(from4, 255) else {
+        return refuse(23);
+    };
+    let from5 = fields::after_tab(from4);
+    let Number::Is(connection) = numbers::first_number(from5, 65535) else {
+        return refuse(23);
+    };
+    let from6 = fields::after_tab(from5);
+    let Number::Is(invoke) = numbers::first_number(from6, 65535) else {
+        return refuse(23);
+    };
+    let from7 = fields::after_tab(from6);
+    let Number::Is(timer) = numbers::first_number(from7, 255) else {
+        return refuse(23);
+    };
+    let call = c.call;
+    ReadEvent {
+        number: 0,
+        event: Event {
+            kind: kind as u8,
+            call,
+            place: Place(place as u16),
+            choice: choice as u8,
+            connection: Connection(connection as u16),
+            invoke: Invoke(invoke as u16),
+            timer: timer as u8,
+        },
+    }
+}
+
+// Writes the line of an event where there is room for it.
+fn put_event(e: Event, out: &mut [u8]) -> usize
+    requires { ⌜ length (eventLine e) ≤ length (now out) ⌝ }
+    ensures { λ r. ⌜ (r ≡ length (eventLine e)) × (now (out .exit) ≡ sets (now (out .entry)) 0 (eventLine e)) ⌝ }
+{
+    let call = e.call;
+    let p = numbers::put_number_and(out, 0, e.kind as u64, 9);
+    let p = calls::put_call_tab(out, p, call);
+    let p = numbers::put_number_and(out, p, e.place.0 as u64, 9);
+    let p = numbers::put_number_and(out, p, e.choice as u64, 9);
+    let p = numbers::put_number_and(out, p, e.connection.0 as u64, 9);
+    let p = numbers::put_number_and(out, p, e.invoke.0 as u64, 9);
+    numbers::put_number(out, p, e.timer as u64)
+}
+
+// How many octets the line of an event has.
+pub fn event_length(e: Event) -> usize
+    ensures { λ r. ⌜ r ≡ length (eventLine e) ⌝ }
+{
+    let first = numbers::digits(e.kind as u64)
+        + numbers::digits(e.place.0 as u64)
+        + numbers::digits(e.choice as u64);
+    let last = numbers::digits(e.connection.0 as u64)
+        + numbers::digits(e.invoke.0 as u64)
+        + numbers::digits(e.timer as u64);
+    first + last + 38
+}
+
+// Writes the line of an event, without a line feed, at the front of the buffer, and gives its length; in a buffer that is too short
+// it writes nothing, and gives 0. Octets beyond the line stay.
+pub fn write_event(e: Event, out: &mut [u8]) -> usize
+    ensures { λ r. ⌜ (r ≡ cond (ltb (length (now (out .entry))) (length (eventLine e))) 0 (length (eventLine e))) × (now (out .exit) ≡ cond (ltb (length (now (out .entry))) (length (eventLine e))) (now (out .entry)) (sets (now (out .entry)) 0 (eventLine e))) ⌝ }
+{
+    if out.len() < event_length(e) {
+        return 0;
+    }
+    put_event(e, out)
+}
+
+// Writes the line of an answer where there is room for it.
+fn put_answer(a: Answer, out: &mut [u8]) -> usize
+    requires { ⌜ length (answerLine a) ≤ length (now out) ⌝ }
+    ensures { λ r. ⌜ (r ≡ length (answerLine a)) × (now (out .exit) ≡ sets (now (out .entry)) 0 (answerLine a)) ⌝ }
+{
+    let call = a.call;
+    let p = numbers::put_number_and(out, 0, a.number as u64, 9);
+    let p = calls::put_call_tab(out, p, call);
+    let p = numbers::put_number_and(out, p, a.place.0 as u64, 9);
+    let p = numbers::put_number_and(out, p, a.state as u64, 9);
+    let p = numbers::put_number_and(out, p, a.message as u64, 9);
+    let p = numbers::put_number_and(out, p, a.connection.0 as u64, 9);
+    let p = numbers::put_number_and(out, p, a.invoke.0 as u64, 9);
+    let p = numbers::put_number_and(out, p, a.error as u64, 9);
+    let p = numbers::put_number_and(out, p, a.started as u64, 9);
+    numbers::put_number_and(out, p, a.stopped as u64, 10)
+}
+
+// How many octets the line of an answer has, its line feed included.
+pub fn answer_length(a: Answer) -> usize
+    ensures { λ r. ⌜ r ≡ length (answerLine a) ⌝ }
+{
+    let first = numbers::digits(a.number as u64)
+        + numbers::digits(a.place.0 as u64)
+        + numbers::digits(a.state as u64);
+    let middle = numbers::digits(a.message as u64)
+        + numbers::digits(a.connection.0 as u64)
+        + numbers::digits(a.invoke.0 as u64);
+    let last = numbers::digits(a.error as u64)
+        + numbers::digits(a.started as u64)
+        + numbers::digits(a.stopped as u64);
+    first + middle + last + 42
+}
+
+// Writes the line of an answer, with its line feed, at the front of the buffer, and gives its length; in a buffer that is too short it
+// writes nothing, and gives 0. Octets beyond the line stay.
+pub fn write_answer(a: Answer, out: &mut [u8]) -> usize
+    ensures { λ r. ⌜ (r ≡ cond (ltb (length (now (out .entry))) (length (answerLine a))) 0 (length (answerLine a))) × (now (out .exit) ≡ cond (ltb (length (now (out .entry))) (length (answerLine a))) (now (out .entry)) (sets (now (out .entry)) 0 (answerLine a))) ⌝ }
+{
+    if out.len() < answer_length(a) {
+        return 0;
+    }
+    put_answer(a, out)
+}
+
+// A line at a table: the step of the event that it says, or its refusal, which keeps the table.
+pub fn step_line(t: Table, line: &[u8]) -> Step
+    ensures { λ r. ⌜ r ≡ lineStep t (now (line .entry)) ⌝ }
+{
+    let read = read_event(line);
+    if read.number == 0 {
+        let e = read.event;
+        step::single_step(t, e)
+    } else {
+        Step {
+            table: t,
+            answer: answers::only_number(read.number),
+        }
+    }
+}

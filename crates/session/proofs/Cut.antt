@@ -1,0 +1,127 @@
+-- However a stream is cut into pieces, a session says to them what is answered to the whole stream. What a session keeps of a line is
+-- its first 63 octets, and a line is read as those are: with fewer they are the line, with more it is refused by 21.
+-- Assumes nothing.
+use mathlib.Core.Path.{_≡_, refl, sym, ap, _∙_}
+use mathlib.Core.Bool.{Bool, true, false, cond}
+use mathlib.Core.List.{List, [], _∷_, _++_, append-assoc, append-nil}
+use mathlib.Core.Logic.{⊎-elim}
+use Prim.Native.Nat.{ℕ, suc, _+_, _<_, _≤_}
+use native.Mathlib.Numerals.{add-one}
+use native.Mathlib.Omega.{arith}
+use lib.Dec.{eqb, ltb}
+use lib.ListN.{length, take, set, length-set, length-append}
+use lib.Seq.{take-all, length-take-le, take-append-le, take-suc-set}
+use borrow.Author.Tests.{lt-ltb, ltb-true, ltb-false, ne-eqb}
+use Rattle.laws.proofs.Bools.{less-or}
+use Rattle.table.specs.declared.Table.{Table}
+use Rattle.lines.specs.EventLine.{readLine}
+use Rattle.lines.specs.LineStep.{stepRead, lineStep}
+use Rattle.lines.specs.AnswerLine.{answerLine}
+use Rattle.session.specs.declared.Session.{Session}
+use Rattle.session.specs.Stream.{lastLine, linesFrom, answersFrom}
+use Rattle.session.specs.Session.{started, pending, endLine, keep, restart, next, saysTo, after, said, saidLast, joinedPieces, saidToAll, CutAnyhow}
+
+-- ---- pieces one after the other
+
+after-append : (s : Session) (p q : List ℕ) → after s (p ++ q) ≡ after (after s p) q
+after-append s [] q = refl
+after-append s (o ∷ p) q = after-append (next s o) p q
+
+said-append : (s : Session) (p q : List ℕ) → said s (p ++ q) ≡ said s p ++ said (after s p) q
+said-append s [] q = refl
+said-append s (o ∷ p) q = ap (λ x. saysTo s o ++ x) (said-append (next s o) p q) ∙ sym (append-assoc (saysTo s o) (said (next s o) p) (said (after (next s o) p) q))
+
+-- what is said to a whole stream, and at its end
+abbrev whole : Session → List ℕ → List ℕ
+whole s stream = said s stream ++ saidLast (after s stream)
+
+pieces-whole : (s : Session) (ps : List (List ℕ)) → saidToAll s ps ≡ whole s (joinedPieces ps)
+pieces-whole s [] = refl
+pieces-whole s (p ∷ ps) =
+    ap (λ x. said s p ++ x) (pieces-whole (after s p) ps)
+    ∙ sym (append-assoc (said s p) (said (after s p) (joinedPieces ps)) (saidLast (after (after s p) (joinedPieces ps))))
+    ∙ rw (said-append s p (joinedPieces ps), after-append s p (joinedPieces ps))
+
+-- ---- a line is read by its first 63 octets
+
+read-by-63 : (line : List ℕ) → readLine (take 63 line) ≡ readLine line
+unfolding readLine
+read-by-63 line =
+    ⊎-elim
+    (λ short. rw (take-all 63 line (omega arith)))
+    (λ long.
+    let cut : length (take 63 line) ≡ 63 = length-take-le 63 line long in
+    rw (cut, lt-ltb 62 (length line) (omega arith)))
+    (less-or (length line) 63)
+
+step-by-63 : (t : Table) (line : List ℕ) → lineStep t (take 63 line) ≡ lineStep t line
+step-by-63 t line = ap (stepRead t) (read-by-63 line)
+
+-- ---- a session that holds what has come of a line
+
+record Holds (s : Session) (line : List ℕ) : Type 0 where
+  size : length (s .kept) ≡ 63
+  below : s .len ≤ 63
+  text : pending s ≡ take 63 line
+
+module _ (s : Session) (line : List ℕ) (h : Holds s line) where
+  held-length : length (take 63 line) ≡ s .len
+  held-length = ap length (sym (h .text)) ∙ length-take-le (s .len) (s .kept) (omega (arith, h .size, h .below))
+
+  held-step : endLine s ≡ lineStep (s .table) line
+  held-step = ap (lineStep (s .table)) (h .text) ∙ step-by-63 (s .table) line
+
+  restart-holds : Holds (restart s) []
+  restart-holds = record { size = h .size; below = omega arith; text = refl }
+
+  keep-holds : (o : ℕ) → Holds (keep s o) (line ++ (o ∷ []))
+  keep-holds o = by (ltb (s .len) 63) refl
+    where
+      by : (b : Bool) → ltb (s .len) 63 ≡ b → Holds (cond b (record { table = s .table; kept = set (s .kept) (s .len) o; len = s .len + 1 }) s) (line ++ (o ∷ []))
+      by true q =
+          let room : s .len < 63 = ltb-true (s .len) 63 q in
+          let short : length line < 63 = ⊎-elim (λ a. a) (λ b. absurd (omega (arith, held-length, length-take-le 63 line b))) (less-or (length line) 63) in
+          let all : take 63 line ≡ line = take-all 63 line (omega arith) in
+          let more : take 63 (line ++ (o ∷ [])) ≡ line ++ (o ∷ []) = take-all 63 (line ++ (o ∷ [])) (omega (arith, length-append line (o ∷ []))) in
+          let stored : take (suc (s .len)) (set (s .kept) (s .len) o) ≡ take (s .len) (s .kept) ++ (o ∷ []) = take-suc-set (s .kept) (s .len) o (omega (arith, h .size)) in
+          record {
+            size = length-set (s .kept) (s .len) o ∙ h .size;
+            below = omega arith;
+            text = rw (add-one (s .len), stored, h .text, all, more);
+          }
+      by false q =
+          let full : 63 ≤ s .len = ltb-false (s .len) 63 q in
+          let long : 63 ≤ length line = ⊎-elim (λ a. absurd (omega (arith, held-length, ap length (take-all 63 line (omega arith)), h .below))) (λ b. b) (less-or (length line) 63) in
+          record { size = h .size; below = h .below; text = h .text ∙ sym (take-append-le 63 line (o ∷ []) long) }
+
+-- the last line
+said-last : (s : Session) (line : List ℕ) → Holds s line → saidLast s ≡ answersFrom (s .table) (lastLine line)
+said-last s [] h = let none : s .len ≡ 0 = sym (held-length s [] h) in rw none
+said-last s (o ∷ os) h =
+    let some : s .len ≡ suc (length (take 62 os)) = sym (held-length s (o ∷ os) h) in
+    let more : eqb (s .len) 0 ≡ false = ne-eqb (s .len) 0 (λ z. omega arith) in
+    rw (more, held-step s (o ∷ os) h, append-nil (answerLine (lineStep (s .table) (o ∷ os) .answer)))
+
+-- THE WHOLE STREAM, where some octets of a line have come
+whole-stream : (stream : List ℕ) (s : Session) (line : List ℕ) → Holds s line → whole s stream ≡ answersFrom (s .table) (linesFrom line stream)
+whole-stream [] s line h = said-last s line h
+whole-stream (o ∷ os) s line h = by (eqb o 10) (whole-stream os)
+  where
+    by : (b : Bool) → ((u : Session) (l : List ℕ) → Holds u l → whole u os ≡ answersFrom (u .table) (linesFrom l os))
+        → (cond b (answerLine (endLine s .answer)) [] ++ said (cond b (restart s) (keep s o)) os) ++ saidLast (after (cond b (restart s) (keep s o)) os)
+        ≡ answersFrom (s .table) (cond b (line ∷ linesFrom [] os) (linesFrom (line ++ (o ∷ [])) os))
+    by true later =
+        let rest = later (restart s) [] (restart-holds s line h) in
+        append-assoc (answerLine (endLine s .answer)) (said (restart s) os) (saidLast (after (restart s) os))
+        ∙ ap (λ x. answerLine (endLine s .answer) ++ x) rest
+        ∙ rw (held-step s line h)
+    by false later =
+        let same : keep s o .table ≡ s .table = kept-table (ltb (s .len) 63) in
+        later (keep s o) (line ++ (o ∷ [])) (keep-holds s line h o) ∙ ap (λ t. answersFrom t (linesFrom (line ++ (o ∷ [])) os)) same
+      where
+        kept-table : (b : Bool) → cond b (record { table = s .table; kept = set (s .kept) (s .len) o; len = s .len + 1 }) s .table ≡ s .table
+        kept-table true = refl
+        kept-table false = refl
+
+pub cut-anyhow : CutAnyhow
+cut-anyhow ps = pieces-whole started ps ∙ whole-stream (joinedPieces ps) started [] (record { size = refl; below = omega arith; text = refl })

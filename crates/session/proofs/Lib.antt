@@ -1,0 +1,5 @@
+pub mod Cut
+pub mod KeepLaws
+pub mod Ends
+pub mod Feeds
+pub mod Unique

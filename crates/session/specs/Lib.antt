@@ -1,0 +1,3 @@
+pub mod Stream
+pub mod Session
+pub mod Keep

@@ -1,0 +1,91 @@
+-- A session: the table, and as much of the line that is coming as is needed to answer it. 63 octets are enough: a longer line is
+-- refused by 21 whatever follows. Octets come in pieces of any size.
+-- Assumes nothing.
+use mathlib.Core.Path.{_≡_}
+use mathlib.Core.Bool.{Bool, true, false, cond}
+use mathlib.Core.List.{List, [], _∷_, _++_}
+use Prim.Native.Nat.{ℕ, _+_, _/_}
+use lib.Dec.{eqb, ltb}
+use lib.ListN.{length, take, set, replicate}
+use lib.Seq.{sets}
+use Rattle.table.specs.Places.{emptyTable}
+use Rattle.step.specs.declared.Step.{Step}
+use Rattle.lines.specs.AnswerLine.{answerLine}
+use Rattle.lines.specs.LineStep.{lineStep}
+use Rattle.session.specs.declared.Session.{Session}
+use Rattle.session.specs.declared.Fed.{Fed}
+use Rattle.session.specs.Stream.{answersTo}
+
+abbrev pub started : Session
+started = record { table = emptyTable; kept = replicate 63 0; len = 0 }
+
+-- what has come of the line
+abbrev pub pending : Session → List ℕ
+pending s = take (s .len) (s .kept)
+
+abbrev pub endLine : Session → Step
+endLine s = lineStep (s .table) (pending s)
+
+-- an octet is kept as long as there is room
+abbrev pub keep : Session → ℕ → Session
+keep s o = cond (ltb (s .len) 63) (record { table = s .table; kept = set (s .kept) (s .len) o; len = s .len + 1 }) s
+
+-- the line is answered
+abbrev pub restart : Session → Session
+restart s = record { table = endLine s .table; kept = s .kept; len = 0 }
+
+-- the session after an octet, and what it says to it
+abbrev pub next : Session → ℕ → Session
+next s o = cond (eqb o 10) (restart s) (keep s o)
+
+abbrev pub saysTo : Session → ℕ → List ℕ
+saysTo s o = cond (eqb o 10) (answerLine (endLine s .answer)) []
+
+-- the session after a piece, and what it says to it
+abbrev pub after : Session → List ℕ → Session
+after s [] = s
+after s (o ∷ os) = after (next s o) os
+
+abbrev pub said : Session → List ℕ → List ℕ
+said s [] = []
+said s (o ∷ os) = saysTo s o ++ said (next s o) os
+
+-- what it says at the end of the stream, to a last line that lacks its feed
+abbrev pub saidLast : Session → List ℕ
+saidLast s = cond (eqb (s .len) 0) [] (answerLine (endLine s .answer))
+
+-- ---- pieces and buffers
+
+-- 61 octets for each octet of the piece are enough: no answer is longer
+abbrev pub isEnough : List ℕ → List ℕ → Bool
+isEnough piece out = cond (ltb (length out / 61) (length piece)) false true
+
+abbrev pub fed : Session → List ℕ → List ℕ → Fed
+fed s piece out =
+    cond (isEnough piece out) (record { enough = true; session = after s piece; written = length (said s piece) })
+    (record { enough = false; session = s; written = 0 })
+
+abbrev pub fedOut : Session → List ℕ → List ℕ → List ℕ
+fedOut s piece out = cond (isEnough piece out) (sets out 0 (said s piece)) out
+
+abbrev pub finishedOut : Session → List ℕ → List ℕ
+finishedOut s out = cond (ltb (length out) 61) out (sets out 0 (saidLast s))
+
+abbrev pub finishedCount : Session → List ℕ → ℕ
+finishedCount s out = cond (ltb (length out) 61) 0 (length (saidLast s))
+
+-- ---- the statement
+
+-- all the pieces of a stream, one after the other
+abbrev pub joinedPieces : List (List ℕ) → List ℕ
+joinedPieces [] = []
+joinedPieces (p ∷ ps) = p ++ joinedPieces ps
+
+-- what is said to pieces, and at their end
+abbrev pub saidToAll : Session → List (List ℕ) → List ℕ
+saidToAll s [] = saidLast s
+saidToAll s (p ∷ ps) = said s p ++ saidToAll (after s p) ps
+
+-- `cut-anyhow`: the answers to a stream, however it is cut into pieces
+abbrev pub CutAnyhow : Type 0
+CutAnyhow = (pieces : List (List ℕ)) → saidToAll started pieces ≡ answersTo (joinedPieces pieces)

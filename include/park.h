@@ -1,0 +1,45 @@
+/*
+ * park.h: the park and pickup table of a voice appliance, one event at a time.
+ *
+ * A table of 96 places holds parked and alerting calls. The caller keeps the table as an image of 2,016 octets; an image of all zeros is
+ * the empty table. An event comes as one line of text, and is answered by one line of text.
+ *
+ * Event line, without its line feed, at most 62 octets, seven fields parted by tabs:
+ *     kind  call  place  choice  connection  invoke  timer
+ * Answer line, ended by a line feed, at most 61 octets with it, ten fields parted by tabs:
+ *     number  call  place  state  message  connection  invoke  error  started  stopped
+ * Numbers are decimal with no leading zeros; the call is 32 lowercase hexadecimal digits.
+ *
+ * An answer's number is 0 where the event is done. Then the image is that of the table after it. Any other number is a refusal, and the
+ * image stays as it was, octet for octet.
+ */
+#ifndef PARK_H
+#define PARK_H
+
+#include <stddef.h>
+#include <stdint.h>
+
+#ifdef __cplusplus
+extern "C" {
+#endif
+
+#define PARK_IMAGE_OCTETS 2016
+#define PARK_ANSWER_OCTETS 61
+
+/*
+ * Takes one event. Gives the count of octets written to the answer, its line feed included, and leaves the octets beyond them as they were.
+ * Gives 0, and touches nothing, only where the answer buffer is shorter than PARK_ANSWER_OCTETS. Any other input has an answer: an image
+ * of another length or of a table that is not sound is refused by 25, a line that does not read by 21 to 24, an event by 1 to 10.
+ *
+ * Proved for every content and every length of the three buffers. Left to the caller: each pointer must be valid, and not null, for its
+ * length (the image and the answer for writing), the three buffers must not overlap, and no two calls may use one image at the same time.
+ */
+size_t park_step(uint8_t *image, size_t image_len,
+                 const uint8_t *line, size_t line_len,
+                 uint8_t *answer, size_t answer_len);
+
+#ifdef __cplusplus
+}
+#endif
+
+#endif

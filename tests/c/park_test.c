@@ -1,0 +1,277 @@
+/*
+ * park_step from C: the session of the scope paper, every refusal that only the entry can give, and what is left in each buffer. The
+ * expected lines are the paper's own, or follow from a sentence of it that stands beside them. Each buffer is framed by guard octets.
+ */
+#include "park.h"
+
+#include <stdio.h>
+#include <stdlib.h>
+#include <string.h>
+
+#define GUARD 32
+#define LARGEST 5000
+
+struct buffer {
+    uint8_t octets[GUARD + LARGEST + GUARD];
+    size_t len;
+};
+
+static struct buffer image, line, answer;
+static unsigned long checks;
+
+static void expect(int good, const char *what)
+{
+    checks++;
+    if (!good) {
+        printf("park_test: FAILED: %s\n", what);
+        exit(1);
+    }
+}
+
+static uint8_t *start(struct buffer *b) { return b->octets + GUARD; }
+
+/* A buffer of this length with these contents, and guards at both ends. */
+static void set(struct buffer *b, const void *contents, size_t len)
+{
+    memset(b->octets, 0xA5, sizeof b->octets);
+    memcpy(start(b), contents, len);
+    b->len = len;
+}
+
+static void clear(struct buffer *b, uint8_t octet, size_t len)
+{
+    memset(b->octets, 0xA5, sizeof b->octets);
+    memset(start(b), octet, len);
+    b->len = len;
+}
+
+static int framed(const struct buffer *b)
+{
+    size_t i;
+    for (i = 0; i < GUARD; i++)
+        if (b->octets[i] != 0xA5) return 0;
+    for (i = GUARD + b->len; i < sizeof b->octets; i++)
+        if (b->octets[i] != 0xA5) return 0;
+    return 1;
+}
+
+static size_t call(void)
+{
+    struct buffer before = line;
+    size_t n = park_step(start(&image), image.len, start(&line), line.len, start(&answer), answer.len);
+    expect(framed(&image) && framed(&line) && framed(&answer), "nothing beside the three buffers is touched");
+    expect(memcmp(&before, &line, sizeof line) == 0, "the line stays");
+    return n;
+}
+
+/* The line is answered so, octets beyond the answer stay, and the image stays unless `changes`. */
+static void answers(const char *says, int changes)
+{
+    struct buffer before = image;
+    size_t n, i, want = strlen(says);
+    clear(&answer, 0x5A, 80);
+    n = call();
+    expect(n == want, "the count is that of the line, its feed included");
+    expect(memcmp(start(&answer), says, want) == 0, says);
+    for (i = want; i < 80; i++) expect(start(&answer)[i] == 0x5A, "octets beyond the answer stay");
+    if (!changes) expect(memcmp(&before, &image, sizeof image) == 0, "a refusal keeps the image");
+}
+
+static void text(const char *s) { set(&line, s, strlen(s)); }
+
+#define ZEROS "00000000000000000000000000000000"
+#define ONE "00000000000000000000000000000001"
+#define PARK_17 "1\t" ONE "\t17\t0\t0\t0\t0"
+/* "The answer then has zeros everywhere but its number" */
+#define ONLY(number) number "\t" ZEROS "\t0\t0\t0\t0\t0\t0\t0\t0\n"
+
+/* "One session in full" */
+static void session(void)
+{
+    static const char *const lines[] = {
+        PARK_17,
+        "4\t" ONE "\t0\t0\t900\t0\t0",
+        "5\t" ONE "\t0\t0\t0\t1\t0",
+        "4\t" ZEROS "\t0\t1\t901\t0\t0",
+        "8\t" ONE "\t0\t0\t0\t0\t0",
+    };
+    static const char *const says[] = {
+        "0\t" ONE "\t17\t1\t1\t0\t0\t0\t1\t0\n",
+        "0\t" ONE "\t17\t4\t4\t0\t1\t0\t4\t0\n",
+        "0\t" ONE "\t17\t5\t5\t900\t0\t0\t0\t4\n",
+        "6\t" ZEROS "\t0\t0\t6\t901\t0\t1\t0\t0\n",
+        "0\t" ONE "\t17\t0\t0\t0\t0\t0\t0\t1\n",
+    };
+    /* "per place 21 octets, place 1 first: state, call, connection, count, the last two high octet first" */
+    static const uint8_t states[] = {1, 4, 5, 5, 0};
+    static const uint8_t counts[] = {0, 1, 1, 1, 0};
+    int i;
+    clear(&image, 0, PARK_IMAGE_OCTETS);
+    for (i = 0; i < 5; i++) {
+        uint8_t want[PARK_IMAGE_OCTETS] = {0};
+        uint8_t *at = want + 16 * 21;
+        text(lines[i]);
+        answers(says[i], i != 3);
+        at[0] = states[i];
+        at[16] = states[i] != 0;
+        if (states[i] == 4) at[17] = 900 / 256, at[18] = 900 % 256;
+        at[20] = counts[i];
+        expect(memcmp(start(&image), want, sizeof want) == 0, "the image of the table after the event");
+    }
+}
+
+/* 26: "answer buffer of the C entry shorter than 61 octets", "writes nothing" */
+static void short_answers(void)
+{
+    size_t len;
+    clear(&image, 0, PARK_IMAGE_OCTETS);
+    text(PARK_17);
+    for (len = 0; len < PARK_ANSWER_OCTETS; len++) {
+        struct buffer images = image, answers_;
+        clear(&answer, 0x5A, len);
+        answers_ = answer;
+        expect(call() == 0, "26 gives 0");
+        expect(memcmp(&images, &image, sizeof image) == 0, "26 keeps the image");
+        expect(memcmp(&answers_, &answer, sizeof answer) == 0, "26 writes nothing");
+    }
+    clear(&answer, 0x5A, PARK_ANSWER_OCTETS);
+    expect(call() == strlen("0\t" ONE "\t17\t1\t1\t0\t0\t0\t1\t0\n"), "61 octets are enough");
+    /* 26 is looked at first: before a bad image and a bad line */
+    clear(&image, 0xFF, 7);
+    text("x");
+    clear(&answer, 0x5A, PARK_ANSWER_OCTETS - 1);
+    expect(call() == 0, "26 comes before 25 and 22");
+}
+
+/* 25: "image not 2,016 octets, or table not sound"; before the line is looked at */
+static void refused_image(void)
+{
+    text(PARK_17);
+    answers(ONLY("25"), 0);
+    text("");
+    answers(ONLY("25"), 0);
+}
+
+static uint8_t *record(int place) { return start(&image) + (place - 1) * 21; }
+
+static void bad_images(void)
+{
+    size_t len;
+    int place, octet, state;
+    for (len = 0; len <= 64; len++) clear(&image, 0, len), refused_image();
+    for (len = PARK_IMAGE_OCTETS - 22; len <= PARK_IMAGE_OCTETS + 22; len++)
+        if (len != PARK_IMAGE_OCTETS) clear(&image, 0, len), refused_image();
+    clear(&image, 0, 2 * PARK_IMAGE_OCTETS);
+    refused_image();
+    for (place = 1; place <= 96; place++) {
+        /* "park positions have state 0, 1, 3, 4 or 5 and lines 0, 2, 3, 4 or 5"; a state above 5 is none */
+        for (state = 6; state < 256; state += 1 + (place != 1 && place != 96) * 50) {
+            clear(&image, 0, PARK_IMAGE_OCTETS);
+            record(place)[0] = (uint8_t)state;
+            refused_image();
+        }
+        clear(&image, 0, PARK_IMAGE_OCTETS);
+        record(place)[0] = place <= 64 ? 2 : 1;
+        refused_image();
+        /* "a free record is all zeros" */
+        for (octet = 1; octet <= 20; octet++) {
+            clear(&image, 0, PARK_IMAGE_OCTETS);
+            record(place)[octet] = 1;
+            refused_image();
+        }
+        /* "the connection is 0 except in state 4" */
+        for (state = 1; state <= 5; state++) {
+            if (state == 4 || state == (place <= 64 ? 2 : 1)) continue;
+            clear(&image, 0, PARK_IMAGE_OCTETS);
+            record(place)[0] = (uint8_t)state;
+            record(place)[17] = 1;
+            refused_image();
+            record(place)[17] = 0;
+            record(place)[18] = 255;
+            refused_image();
+        }
+        /* "no two occupied places hold the same call" */
+        if (place < 96) {
+            int other = place == 95 ? 96 : place + 1 + place % (96 - place);
+            clear(&image, 0, PARK_IMAGE_OCTETS);
+            record(place)[0] = 3, record(place)[5] = 7;
+            record(other)[0] = 5, record(other)[5] = 7;
+            refused_image();
+            /* two calls that differ in the last octet, or in the first, are two calls */
+            record(other)[16] = 1;
+            text("8\t" ZEROS "\t0\t0\t0\t0\t0");
+            answers(ONLY("5"), 0);
+            record(other)[16] = 0, record(other)[1] = 1;
+            answers(ONLY("5"), 0);
+        }
+    }
+}
+
+/* 21 to 24, in that order; "A line feed inside it makes its field bad." */
+static void bad_lines(void)
+{
+    static const char *const twenty_two[] = {"", "\t", "1\t" ONE "\t17\t0\t0\t0", "1\t" ONE "\t17\t0\t0\t0\t0\t0", "1 " ONE " 17 0 0 0 0"};
+    static const char *const twenty_three[] = {
+        "\t" ONE "\t17\t0\t0\t0\t0", "01\t" ONE "\t17\t0\t0\t0\t0", "256\t" ONE "\t17\t0\t0\t0\t0", "x\t" ONE "\t17\t0\t0\t0\t0",
+        "1\t" ONE "\t\t0\t0\t0\t0", "1\t" ONE "\t65536\t0\t0\t0\t0", "1\t" ONE "\t-1\t0\t0\t0\t0", "1\t" ONE "\t+1\t0\t0\t0\t0",
+        "1\t" ONE "\t17\t256\t0\t0\t0", "1\t" ONE "\t17\t0\t65536\t0\t0", "1\t" ONE "\t17\t0\t0\t65536\t0", "1\t" ONE "\t17\t0\t0\t0\t256",
+        "1\t" ONE "\t17\t0\t0\t0\t00", "1\t" ONE "\t17\n\t0\t0\t0\t0", "1\n\t" ONE "\t17\t0\t0\t0\t0", "1\t" ONE "\t17\t0\t0\t0\t0\n",
+        "1\t" ONE "\t17\t0\t0\t0\t0\r", "01\tx\t17\t0\t0\t0\t0",
+    };
+    static const char *const twenty_four[] = {
+        "1\t\t17\t0\t0\t0\t0", "1\t0000000000000000000000000000001\t17\t0\t0\t0\t0", "1\t000000000000000000000000000000001\t17\t0\t0\t0\t0",
+        "1\t0000000000000000000000000000000A\t17\t0\t0\t0\t0", "1\t0000000000000000000000000000000g\t17\t0\t0\t0\t0",
+        "1\t0000000000000000000000000000000\n\t17\t0\t0\t0\t0", "1\tx\tx\t0\t0\t0\t0",
+    };
+    char longest[LARGEST];
+    size_t i, len;
+    clear(&image, 0, PARK_IMAGE_OCTETS);
+    for (len = 63; len < 200; len++) memset(longest, '\t', len), set(&line, longest, len), answers(ONLY("21"), 0);
+    memset(longest, '1', sizeof longest);
+    set(&line, longest, sizeof longest);
+    answers(ONLY("21"), 0);
+    memset(longest, '\t', 62);
+    set(&line, longest, 62);
+    answers(ONLY("22"), 0);
+    for (i = 0; i < sizeof twenty_two / sizeof *twenty_two; i++) text(twenty_two[i]), answers(ONLY("22"), 0);
+    for (i = 0; i < sizeof twenty_three / sizeof *twenty_three; i++) text(twenty_three[i]), answers(ONLY("23"), 0);
+    for (i = 0; i < sizeof twenty_four / sizeof *twenty_four; i++) text(twenty_four[i]), answers(ONLY("24"), 0);
+    /* the longest line reads: 62 octets; kind 255 is refused by 1 */
+    text("255\t" ONE "\t65535\t255\t65535\t65535\t255");
+    expect(line.len == 62, "the longest line has 62 octets");
+    answers(ONLY("1"), 0);
+}
+
+/* An accepted event changes the octets of its own place and no others. */
+static void one_place(void)
+{
+    int place;
+    for (place = 1; place <= 64; place++) {
+        char event[80];
+        struct buffer before;
+        size_t i;
+        if (place == 1) clear(&image, 0, PARK_IMAGE_OCTETS);
+        before = image;
+        sprintf(event, "1\t%032x\t0\t0\t0\t0\t0", (unsigned)place * 257);
+        text(event);
+        clear(&answer, 0, PARK_ANSWER_OCTETS);
+        expect(call() > 0 && start(&answer)[0] == '0', "a park is done while there is room");
+        for (i = 0; i < PARK_IMAGE_OCTETS; i++)
+            if (i / 21 != (size_t)place - 1) expect(start(&image)[i] == start(&before)[i], "the other places stay");
+        expect(record(place)[0] == 1, "the lowest free position");
+    }
+    text("1\t" ZEROS "\t5\t0\t0\t0\t0");
+    /* "a park refused by 3 or 4 has message 2, error 1" */
+    answers("4\t" ZEROS "\t0\t0\t2\t0\t0\t1\t0\t0\n", 0);
+}
+
+int main(void)
+{
+    session();
+    short_answers();
+    bad_images();
+    bad_lines();
+    one_place();
+    printf("park_test: %lu checks passed\n", checks);
+    return 0;
+}
