@@ -1,11 +1,11 @@
 -- Truth values: the two halves of `_&&_`, and the cases of a test on two numbers with the fact that each case gives.
 -- Assumes nothing.
 use mathlib.Core.Path.{_≡_, refl, sym, _∙_}
-use mathlib.Core.Bool.{Bool, true, false, not, _&&_, false≢true}
-use mathlib.Core.Logic.{_⊎_, inl, inr, ⊎-elim}
+use mathlib.Core.Bool.{Bool, true, false, _&&_, false≢true}
+use mathlib.Core.Logic.{_⊎_, inl, inr}
 use Prim.Native.Nat.{ℕ, _<_, _≤_}
 use lib.Dec.{eqb, ltb}
-use borrow.Author.Tests.{eqb-true, eqb-false, ltb-true, ltb-false, eq-eqb, ne-eqb}
+use borrow.Author.Tests.{eqb-true, eqb-false, ltb-true, ltb-false}
 
 -- a test that is both passed and failed
 pub never : {A : Type 0} → false ≡ true → A
@@ -38,7 +38,3 @@ less-or a b = by (ltb a b) refl
     by : (x : Bool) → ltb a b ≡ x → (a < b) ⊎ (b ≤ a)
     by true e = inl (ltb-true a b e)
     by false e = inr (ltb-false a b e)
-
-pub eqb-sym : (a b : ℕ) → eqb a b ≡ eqb b a
-eqb-sym a b =
-    ⊎-elim (λ e. eq-eqb a b e ∙ sym (eq-eqb b a (sym e))) (λ ne. ne-eqb a b ne ∙ sym (ne-eqb b a (λ e. ne (sym e)))) (equal-or a b)

@@ -8,6 +8,7 @@ use native.Mathlib.Omega.{arith}
 use lib.Dec.{eqb, lit<}
 use lib.ListN.{length}
 use Rattle.table.specs.declared.Table.{Table}
+use Rattle.step.specs.declared.Event.{Event}
 use Rattle.step.specs.declared.Answer.{Answer}
 use Rattle.step.specs.declared.Step.{Step}
 use Rattle.step.specs.declared.message.Message.the-variants.{NoMessage}
@@ -44,13 +45,19 @@ small-short a s y =
       stopped = omega (arith, s .stopped);
     })
 
+-- NO ANSWER LINE OF A STEP
+pub step-short : (t : Table) (e : Event) → length (t .places) ≡ 96 → Typed (stepOf t e .answer) → length (answerLine (stepOf t e .answer)) ≤ 61
+step-short t e size y = small-short (stepOf t e .answer) (answers-small t e size) y
+
+-- nor of a number alone
 pub number-short : (n : ℕ) → n ≤ 255 → length (answerLine (saying n NoMessage)) ≤ 61
 number-short n h = omega (arith, length-answer (saying n NoMessage) refl, length-three n h, length-digit 0 (lit< tt))
 
+-- nor of a line at a table
 pub line-short : (t : Table) (line : List ℕ) → length (t .places) ≡ 96 → Typed (lineStep t line .answer) → length (answerLine (lineStep t line .answer)) ≤ 61
 line-short t line size y = by (readLine line) (eqb (readLine line .number) 0) y
   where
     by : (r : ReadEvent) (b : Bool) → Typed (cond b (stepOf t (r .event)) (record { table = t; answer = saying (r .number) NoMessage }) .answer)
         → length (answerLine (cond b (stepOf t (r .event)) (record { table = t; answer = saying (r .number) NoMessage }) .answer)) ≤ 61
-    by r true z = small-short (stepOf t (r .event) .answer) (answers-small t (r .event) size) z
+    by r true z = step-short t (r .event) size z
     by r false z = number-short (r .number) (z .number)

@@ -72,7 +72,7 @@ number-of-side d (suc k) h = (
 )
 
 -- and its index is of that side
-proposed-side : (d : Side) (n : ℕ) → isOf d (sideOf (record { 0 = n })) ≡ true → (indexOf n < 96) × (sideAt (indexOf n) ≡ d)
+pub proposed-side : (d : Side) (n : ℕ) → isOf d (sideOf (record { 0 = n })) ≡ true → (indexOf n < 96) × (sideAt (indexOf n) ≡ d)
 proposed-side d zero h = never h
 proposed-side d (suc k) h =
     let inside : k < 96 = omega (arith, number-of-side d (suc k) h .1) in

@@ -1,0 +1,14 @@
+pub mod Laws
+pub mod Part
+pub mod Build
+pub mod Keep
+pub mod Same
+pub mod Every
+pub mod Once
+pub mod Turned
+pub mod OneTurn
+pub mod TableLaws
+pub mod EachStay
+pub mod Requester
+pub mod Demand
+pub mod Refusing

@@ -1,0 +1,191 @@
+-- Who is told that a call is picked up: the last pickrequ of the stay. State 4 is entered by a pickrequ alone, which leaves its
+-- connection in the record (`requested`); a result in state 4 is told on the record's connection (`told-there`). Along a stay, built event by
+-- event, the record and the list of events so far agree (`Agrees`).
+-- Assumes nothing.
+use mathlib.Core.Path.{_≡_, refl, sym, ap, _∙_, subst}
+use mathlib.Core.Bool.{Bool, true, false, cond}
+use mathlib.Core.List.{List, [], _∷_, _++_, append-assoc, append-nil}
+use Prim.Native.Nat.{ℕ}
+use native.Mathlib.Omega.{arith}
+use lib.Dec.{eqb}
+use Rattle.table.specs.declared.Invoke.{Invoke}
+use Rattle.table.specs.declared.State.{State}
+use Rattle.table.specs.declared.State.the-variants.{Free, ParkWaiting, LineWaiting, Requested, RemoteRequested, HandedOver}
+use Rattle.table.specs.declared.Side.{Side}
+use Rattle.table.specs.declared.Side.the-variants.{Position, Line}
+use Rattle.table.specs.declared.Record.{Record}
+use Rattle.table.specs.Places.{stateNumber, waitingOn, sideAt}
+use Rattle.table.specs.Timers.{timerSet}
+use Rattle.step.specs.declared.Event.{Event}
+use Rattle.step.specs.declared.Answer.{Answer}
+use Rattle.step.specs.declared.rule.Rule.the-variants.{On}
+use Rattle.step.specs.declared.rule.Signal.{Signal}
+use Rattle.step.specs.declared.rule.Signal.the-variants.{LocalPickup, PickRequest, PickupResult, PickupError, ErrorInRelease, Release, Answered, Expiry}
+use Rattle.step.specs.declared.message.Message.{Message}
+use Rattle.step.specs.declared.message.Message.the-variants.{Connect, Facility, PickResult, ReleaseComplete}
+use Rattle.step.specs.declared.refusal.Refusal.the-variants.{NotOutstanding, TimerNotRunning}
+use Rattle.step.specs.declared.turn.Stage.{Stage}
+use Rattle.step.specs.declared.turn.Stage.the-variants.{Waits, AskedHere, AskedFrom, Taken}
+use Rattle.step.specs.declared.turn.Outcome.the-variants.{Refused, Freed, Becomes}
+use Rattle.step.specs.Rule.{ruleOf}
+use Rattle.step.specs.Turn.{stageOf, stateAt, connectionAt, up, pickedUp, isOutstanding, failed, failedInRelease, answered, runs, turnOn}
+use Rattle.stays.specs.ParkTable.{machine}
+use Rattle.stays.specs.Demand.{Act, LastRequest, asks, stateAfter, TellsRequester, AllTell, TellsItsRequester}
+use Rattle.stays.proofs.Part.{Part, begun, onward, Whole, whole}
+use Rattle.stays.proofs.Every.{every-stay}
+use Rattle.stays.proofs.Turned.{Turned, opened, closed, carried, one-signal, hands}
+use Rattle.stays.proofs.TableLaws.{laws}
+use Rattle.stays.proofs.EachStay.{answer-of}
+
+-- ---- which turns lead to state 4
+
+waits≢4 : (a : Side) → stateNumber (waitingOn a) ≡ 4 → ⊥
+waits≢4 Position h = omega arith
+waits≢4 Line h = omega arith
+
+module _ (g : Stage) (n : Invoke) (m : Message) where
+  -- the stage that a pickup asks for
+  picked : (f to : Stage) (i : Invoke) (w : Message) → pickedUp f to i w ≡ Becomes g n m → g ≡ to
+  picked Waits to i w h = cc h
+  picked AskedHere to i w h = absurd (let z : _≡_ {A = ℕ} 0 1 = cc h in omega arith)
+  picked (AskedFrom c) to i w h = absurd (let z : _≡_ {A = ℕ} 0 1 = cc h in omega arith)
+  picked Taken to i w h = absurd (let z : _≡_ {A = ℕ} 0 1 = cc h in omega arith)
+
+  -- an error leads back to the wait
+  back : (f : Stage) (b : Bool) (i : Invoke) → failed f b i ≡ Becomes g n m → g ≡ Waits
+  back Waits b i h = absurd (let z : _≡_ {A = ℕ} 0 1 = cc h in omega arith)
+  back AskedHere true i h = absurd (let z : _≡_ {A = ℕ} 0 1 = cc h in omega arith)
+  back AskedHere false i h = absurd (let z : _≡_ {A = ℕ} 0 1 = cc h in omega arith)
+  back (AskedFrom c) true i h = cc h
+  back (AskedFrom c) false i h = absurd (let z : _≡_ {A = ℕ} 0 1 = cc h in omega arith)
+  back Taken b i h = absurd (let z : _≡_ {A = ℕ} 0 1 = cc h in omega arith)
+
+  -- a release ends the stay
+  release-ends : (f : Stage) (b : Bool) → failedInRelease f b ≡ Becomes g n m → ⊥
+  release-ends Waits b h = let z : _≡_ {A = ℕ} 0 1 = cc h in omega arith
+  release-ends AskedHere true h = let z : _≡_ {A = ℕ} 0 1 = cc h in omega arith
+  release-ends AskedHere false h = let z : _≡_ {A = ℕ} 0 1 = cc h in omega arith
+  release-ends (AskedFrom c) true h = let z : _≡_ {A = ℕ} 0 1 = cc h in omega arith
+  release-ends (AskedFrom c) false h = let z : _≡_ {A = ℕ} 0 1 = cc h in omega arith
+  release-ends Taken b h = let z : _≡_ {A = ℕ} 0 1 = cc h in omega arith
+
+  answer-ends : (s : State) → answered s ≡ Becomes g n m → ⊥
+  answer-ends Free h = let z : _≡_ {A = ℕ} 0 1 = cc h in omega arith
+  answer-ends ParkWaiting h = let z : _≡_ {A = ℕ} 0 1 = cc h in omega arith
+  answer-ends LineWaiting h = let z : _≡_ {A = ℕ} 0 1 = cc h in omega arith
+  answer-ends Requested h = let z : _≡_ {A = ℕ} 0 1 = cc h in omega arith
+  answer-ends RemoteRequested h = let z : _≡_ {A = ℕ} 0 1 = cc h in omega arith
+  answer-ends HandedOver h = let z : _≡_ {A = ℕ} 0 1 = cc h in omega arith
+
+  to-4 : (k : Signal) (a : Side) (r : Record) (e : Event) → turnOn k a r e ≡ Becomes g n m → stateNumber (stateAt a g) ≡ 4
+      → (k ≡ PickRequest) × (connectionAt g ≡ e .connection)
+  to-4 LocalPickup a r e t q =
+      let s : g ≡ AskedHere = picked (stageOf r) AskedHere (up (r .count)) (Connect (up (r .count))) t in
+      absurd (let z : _≡_ {A = ℕ} 3 4 = rw s at q in omega arith)
+  to-4 PickRequest a r e t q =
+      let s : g ≡ AskedFrom (e .connection) = picked (stageOf r) (AskedFrom (e .connection)) (up (r .count)) (Facility (up (r .count))) t in
+      (refl, rw s)
+  to-4 PickupResult a r e t q =
+      let s : g ≡ Taken = hands a r e g n m t in
+      absurd (let z : _≡_ {A = ℕ} 5 4 = rw s at q in omega arith)
+  to-4 PickupError a r e t q =
+      let s : g ≡ Waits = back (stageOf r) (isOutstanding r (e .invoke)) (r .count) t in
+      absurd (waits≢4 a (rw s at q))
+  to-4 ErrorInRelease a r e t q = absurd (release-ends (stageOf r) (isOutstanding r (e .invoke)) t)
+  to-4 Release a r e t q = absurd (let z : _≡_ {A = ℕ} 0 1 = cc t in omega arith)
+  to-4 Answered a r e t q = absurd (answer-ends (r .state) t)
+  to-4 Expiry a r e t q = absurd (by (runs (timerSet a (r .state)) (e .timer)) (eqb (e .timer) 9) t)
+    where
+      by : (x y : Bool) → cond x (cond y (failed (stageOf r) true (r .count)) (Freed ReleaseComplete)) (Refused TimerNotRunning) ≡ Becomes g n m → ⊥
+      by true true h = let s : g ≡ Waits = back (stageOf r) true (r .count) h in waits≢4 a (rw s at q)
+      by true false h = let z : _≡_ {A = ℕ} 0 1 = cc h in omega arith
+      by false y h = let z : _≡_ {A = ℕ} 0 1 = cc h in omega arith
+
+-- ---- a result in state 4
+
+state-4 : (s : State) → stateNumber s ≡ 4 → s ≡ RemoteRequested
+state-4 Free h = absurd (omega arith)
+state-4 ParkWaiting h = absurd (omega arith)
+state-4 LineWaiting h = absurd (omega arith)
+state-4 Requested h = absurd (omega arith)
+state-4 RemoteRequested h = refl
+state-4 HandedOver h = absurd (omega arith)
+
+module _ (a : Side) (r : Record) (e : Event) (remote : r .state ≡ RemoteRequested) where
+  not-freed : (m : Message) → turnOn PickupResult a r e ≡ Freed m → ⊥
+  not-freed m t = by (isOutstanding r (e .invoke)) (rw remote at t)
+    where
+      by : (b : Bool) → cond b (Becomes Taken (r .count) (PickResult (r .connection))) (Refused NotOutstanding) ≡ Freed m → ⊥
+      by true h = let z : _≡_ {A = ℕ} 0 1 = cc h in omega arith
+      by false h = let z : _≡_ {A = ℕ} 0 1 = cc h in omega arith
+
+  says : (g : Stage) (n : Invoke) (m : Message) → turnOn PickupResult a r e ≡ Becomes g n m → m ≡ PickResult (r .connection)
+  says g n m t = by (isOutstanding r (e .invoke)) (rw remote at t)
+    where
+      by : (b : Bool) → cond b (Becomes Taken (r .count) (PickResult (r .connection))) (Refused NotOutstanding) ≡ Becomes g n m → m ≡ PickResult (r .connection)
+      by true h = cc h
+      by false h = absurd (let z : _≡_ {A = ℕ} 0 1 = cc h in omega arith)
+
+-- ---- one turn
+
+module _ {p : ℕ} {r : Record} {e : Event} where
+  requested : {a : Answer} {s : Record} → Turned p r e a s → stateNumber (s .state) ≡ 4 → (ruleOf (e .kind) ≡ On PickRequest) × (s .connection ≡ e .connection)
+  requested (opened d o) q = absurd (waits≢4 (sideAt p) q)
+  requested (closed k m h t) q = absurd (omega arith)
+  requested (carried k g n m h t) q = let f = to-4 g n m k (sideAt p) r e t q in (h .rule ∙ ap On (f .0), f .1)
+
+  told-there : {a : Answer} {s : Record} → Turned p r e a s → ruleOf (e .kind) ≡ On PickupResult → stateNumber (r .state) ≡ 4
+      → (a .message ≡ 5) × (a .connection ≡ r .connection)
+  told-there (opened d o) rule q = absurd (let z : _≡_ {A = ℕ} 0 1 = cc (sym (o .rule) ∙ rule) in omega arith)
+  told-there (closed k m h t) rule q =
+      let same : k ≡ PickupResult = one-signal (h .rule) rule in
+      absurd (not-freed (sideAt p) r e (state-4 (r .state) q) m (rw same at t))
+  told-there (carried k g n m h t) rule q =
+      let same : k ≡ PickupResult = one-signal (h .rule) rule in
+      let said : m ≡ PickResult (r .connection) = says (sideAt p) r e (state-4 (r .state) q) g n m (rw same at t) in
+      rw said (refl, refl)
+
+-- ---- along a stay
+
+state-snoc : (n : ℕ) (xs : List Act) (x : Act) → stateAfter n (xs ++ (x ∷ [])) ≡ x .answer .state
+state-snoc n [] x = refl
+state-snoc n (y ∷ xs) x = state-snoc (y .answer .state) xs x
+
+tell-snoc : (before xs : List Act) (x : Act) → AllTell before xs → TellsRequester (before ++ xs) x → AllTell before (xs ++ (x ∷ []))
+tell-snoc before [] x h t = (subst (λ l. TellsRequester l x) (append-nil before) t, tt)
+tell-snoc before (y ∷ xs) x h t = (h .0, tell-snoc (before ++ (y ∷ [])) xs x (h .1) (subst (λ l. TellsRequester l x) (sym (append-assoc before (y ∷ []) xs)) t))
+
+-- the events so far and the record at their place
+record Agrees (xs : List Act) (r : Record) : Type 0 where
+  state : stateAfter 0 xs ≡ stateNumber (r .state)
+  asked : stateNumber (r .state) ≡ 4 → LastRequest xs (r .connection)
+  tell : AllTell [] xs
+
+request : (xs : List Act) (x : Act) {p : ℕ} {r s : Record} → Turned p r (x .event) (x .answer) s → stateNumber (s .state) ≡ 4 → LastRequest (xs ++ (x ∷ [])) (s .connection)
+request xs x turn q = let f = requested turn q in subst (LastRequest (xs ++ (x ∷ []))) (sym (f .1)) (asks xs x (f .0))
+
+tells : (xs : List Act) (x : Act) {p : ℕ} {r s : Record} → Agrees xs r → Turned p r (x .event) (x .answer) s → TellsRequester xs x
+tells xs x h turn rule q =
+    let four = sym (h .state) ∙ q in
+    let f = told-there turn rule four in
+    (f .0, subst (LastRequest xs) (sym (f .1)) (h .asked four))
+
+part-agrees : {p : ℕ} {c : List ℕ} {xs : List Act} {r : Record} → Part machine laws p c xs r → Agrees xs r
+part-agrees (begun {x} turn k q) = record {
+  state = answer-of turn .2;
+  asked = request [] x turn;
+  tell = ((λ rule zero. absurd (omega arith)), tt);
+}
+part-agrees (onward {xs} {x} h turn k q) =
+    let before = part-agrees h in
+    record {
+      state = state-snoc 0 xs x ∙ answer-of turn .2;
+      asked = request xs x turn;
+      tell = tell-snoc [] xs x (before .tell) (tells xs x before turn);
+    }
+
+whole-tells : {xs : List Act} → Whole machine laws xs → AllTell [] xs
+whole-tells (whole {p} {c} {xs} {x} h turn k q) = let before = part-agrees h in tell-snoc [] xs x (before .tell) (tells xs x before turn)
+
+pub tells-requester : TellsItsRequester
+tells-requester es = every-stay machine laws (AllTell []) (λ p c xs r h. part-agrees h .tell) (λ xs h. whole-tells h) es

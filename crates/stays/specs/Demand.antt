@@ -1,0 +1,111 @@
+-- THE DEMAND, stay by stay, on one page: what is promised of every list of events, from the empty table of document 01. Each
+-- statement is proved in `proofs/Demand.antt` under the name that stands beside it here. The words are those of `Stays.antt`, at the machine
+-- of `ParkTable.antt`.
+-- Assumes nothing.
+use mathlib.Core.Path.{_≡_}
+use mathlib.Core.List.{List, [], _∷_, _++_}
+use Prim.Native.Nat.{ℕ}
+use Rattle.table.specs.declared.Place.{Place}
+use Rattle.table.specs.declared.Connection.{Connection}
+use Rattle.table.specs.declared.Side.{Side}
+use Rattle.table.specs.Places.{emptyTable, placeAt}
+use Rattle.step.specs.declared.Event.{Event}
+use Rattle.step.specs.declared.Answer.{Answer}
+use Rattle.step.specs.declared.rule.Rule.{Rule}
+use Rattle.step.specs.declared.rule.Rule.the-variants.{Start, On}
+use Rattle.step.specs.declared.rule.Signal.the-variants.{PickRequest, PickupResult}
+use Rattle.step.specs.Rule.{ruleOf}
+use Rattle.stays.specs.Stays.{Done, Stays, Every, none, run, stays, allStays, Rearranges, SameEvents, OneResult}
+use Rattle.stays.specs.ParkTable.{machine}
+
+-- an accepted event, by name, with its answer
+abbrev pub Act : Type 0
+Act = Done Event Answer
+
+-- the stays of a run: the ended ones, and the running ones
+abbrev pub staysOf : List Event → Stays Act
+staysOf es = stays machine none (run machine emptyTable es)
+
+-- ---- (a), (b), (c): the run, rearranged
+
+-- `rearranges`: the accepted events, by name, stay by stay, are accepted from the empty table with the same answers, and lead to
+-- the same table
+abbrev pub ReplaysByStay : Type 0
+ReplaysByStay = Rearranges machine
+
+-- `same-events`: none is lost and none doubled, whatever is counted
+abbrev pub HasSameEvents : Type 0
+HasSameEvents = SameEvents machine
+
+-- `one-result`: no stay has two accepted pickup results
+abbrev pub HasOneResult : Type 0
+HasOneResult = OneResult machine
+
+-- ---- (d): what a stay is like
+
+abbrev pub Is : Rule → Act → Type 0
+Is k x = ruleOf (x .event .kind) ≡ k
+
+-- a park or an alert
+abbrev pub IsStart : Act → Type 0
+IsStart x = (d : Side) × Is (Start d) x
+
+-- the first event is a park or an alert, and no later one is
+abbrev pub Begins : List Act → Type 0
+Begins [] = ⊥
+Begins (x ∷ xs) = IsStart x × Every (λ y. IsStart y → ⊥) xs
+
+-- the answer is of this place and this call
+abbrev pub OfStay : Place → List ℕ → Act → Type 0
+OfStay p call x = (x .answer .place ≡ p) × (x .answer .call ≡ call)
+
+-- after the event the place is free
+abbrev pub Frees : Act → Type 0
+Frees x = x .answer .state ≡ 0
+
+-- the stay of a call at a place, as long as it runs
+pub record Runs (p : Place) (call : List ℕ) (xs : List Act) : Type 0 where
+  pub begins : Begins xs
+  pub one : Every (OfStay p call) xs
+  pub held : Every (λ x. Frees x → ⊥) xs
+
+-- a stay that ran, and a last event that frees the place
+pub record Ended (xs : List Act) : Type 0 where
+  pub place : Place
+  pub call : List ℕ
+  pub before : List Act
+  pub last : Act
+  pub all : xs ≡ before ++ (last ∷ [])
+  pub runs : Runs place call before
+  pub same : OfStay place call last
+  pub no-start : IsStart last → ⊥
+  pub frees : Frees last
+
+-- `each-stay`
+abbrev pub EachStay : Type 0
+EachStay = (es : List Event) → Every Ended (staysOf es .ended) × Every (λ s. (call : List ℕ) × Runs (placeAt (s .at)) call (s .events)) (staysOf es .running)
+
+-- ---- (e): who is told that the call is picked up
+
+-- this is the connection of the last pickrequ among the events
+pub data LastRequest : List Act → Connection → Type 0 where
+  asks : (xs : List Act) (x : Act) → Is (On PickRequest) x → LastRequest (xs ++ (x ∷ [])) (x .event .connection)
+  other : (xs : List Act) (x : Act) {c : Connection} → (Is (On PickRequest) x → ⊥) → LastRequest xs c → LastRequest (xs ++ (x ∷ [])) c
+
+-- the state that the events leave their place in
+abbrev pub stateAfter : ℕ → List Act → ℕ
+stateAfter state [] = state
+stateAfter state (x ∷ xs) = stateAfter (x .answer .state) xs
+
+-- a result in state 4 is answered by message 5, on the connection of the last pickrequ before it in the stay
+abbrev pub TellsRequester : List Act → Act → Type 0
+TellsRequester before x = Is (On PickupResult) x → stateAfter 0 before ≡ 4 → (x .answer .message ≡ 5) × LastRequest before (x .answer .connection)
+
+-- so does every event, each with those before it
+abbrev pub AllTell : List Act → List Act → Type 0
+AllTell before [] = Unit {0}
+AllTell before (x ∷ xs) = TellsRequester before x × AllTell (before ++ (x ∷ [])) xs
+
+-- `tells-requester`
+abbrev pub TellsItsRequester : Type 0
+TellsItsRequester = (es : List Event) → Every (AllTell []) (allStays machine (staysOf es))

@@ -1,0 +1,4 @@
+pub mod Stays
+pub mod ParkTable
+pub mod Demand
+pub mod Refusing

@@ -1,0 +1,145 @@
+-- Stays: what a machine of places does, stay by stay. The definitions of the demand, over any machine: its runs, the stays of a run
+-- (a fold over the accepted events), and the three parts of the demand that every machine with the laws of `proofs/Laws.antt` meets.
+-- Assumes nothing.
+use mathlib.Core.Path.{_≡_}
+use mathlib.Core.Bool.{Bool, true, false}
+use mathlib.Core.List.{List, [], _∷_, _++_, map}
+use Prim.Native.Nat.{ℕ, _+_, _≤_}
+use native.Mathlib.Decide.{ℕ-discrete}
+
+-- What an accepted event does to the stay at its place.
+pub data Mark : Type 0 where
+  starts goes-on ends : Mark
+
+-- An event, as it was accepted, and its answer.
+pub record Done (Event Answer : Type 0) : Type 0 where
+  pub event : Event
+  pub answer : Answer
+
+-- One step of a table, and what may be read off an accepted event with its answer.
+pub record Machine : Type 1 where
+  pub Table : Type 0
+  pub Event : Type 0
+  pub Answer : Type 0
+  pub empty : Table
+  pub next : Table → Event → Table
+  pub answer : Table → Event → Answer
+  pub accepted : Answer → Bool
+  -- the event with the call and the place that it was given, and a pickup asking by name
+  pub named : Event → Answer → Event
+  pub mark : Done Event Answer → Mark
+  pub place : Done Event Answer → ℕ
+  -- an accepted pickup result
+  pub result : Done Event Answer → Bool
+
+-- ---- stays
+
+-- A running stay: its place, and its events in order.
+pub record Stay (X : Type 0) : Type 0 where
+  pub at : ℕ
+  pub events : List X
+
+-- The ended stays, in the order of their ends, and the running ones, in the order of their starts.
+pub record Stays (X : Type 0) : Type 0 where
+  pub ended : List (List X)
+  pub running : List (Stay X)
+
+abbrev pub whether : {P A : Type 0} → Dec P → A → A → A
+whether (yes h) a b = a
+whether (no h) a b = b
+
+abbrev pub one-if : Bool → ℕ
+one-if true = 1
+one-if false = 0
+
+module _ {X : Type 0} where
+  -- each element is so
+  abbrev pub Every : (X → Type 0) → List X → Type 0
+  Every P [] = Unit {0}
+  Every P (x ∷ xs) = P x × Every P xs
+
+  -- the stay, with one more event if it is at this place
+  abbrev pub longer : ℕ → X → Stay X → Stay X
+  longer p x s = whether (ℕ-discrete p (s .at)) (record { at = s .at; events = s .events ++ (x ∷ []) }) s
+
+  -- the stays at other places
+  abbrev pub others : ℕ → List (Stay X) → List (Stay X)
+  others p [] = []
+  others p (s ∷ ss) = whether (ℕ-discrete p (s .at)) (others p ss) (s ∷ others p ss)
+
+  -- the events of the stay at this place
+  abbrev pub eventsAt : ℕ → List (Stay X) → List X
+  eventsAt p [] = []
+  eventsAt p (s ∷ ss) = whether (ℕ-discrete p (s .at)) (s .events) (eventsAt p ss)
+
+  abbrev pub add : Mark → ℕ → X → Stays X → Stays X
+  add starts p x s = record { ended = s .ended; running = s .running ++ (record { at = p; events = x ∷ [] } ∷ []) }
+  add goes-on p x s = record { ended = s .ended; running = map (longer p x) (s .running) }
+  add ends p x s = record { ended = s .ended ++ ((eventsAt p (s .running) ++ (x ∷ [])) ∷ []); running = others p (s .running) }
+
+  abbrev pub none : Stays X
+  none = record { ended = []; running = [] }
+
+  abbrev pub joined : List (List X) → List X
+  joined [] = []
+  joined (xs ∷ xss) = xs ++ joined xss
+
+  abbrev pub eventsOf : List (Stay X) → List X
+  eventsOf [] = []
+  eventsOf (s ∷ ss) = s .events ++ eventsOf ss
+
+  -- stay by stay: the ended first, then the running
+  abbrev pub stayByStay : Stays X → List X
+  stayByStay s = joined (s .ended) ++ eventsOf (s .running)
+
+  abbrev pub keep : Bool → X → List X → List X
+  keep true x xs = x ∷ xs
+  keep false x xs = xs
+
+  abbrev pub count : (X → Bool) → List X → ℕ
+  count f [] = 0
+  count f (x ∷ xs) = one-if (f x) + count f xs
+
+-- ---- runs of a machine
+
+module _ (m : Machine) where
+  open Machine m using (Table, Event, Answer, empty, next, answer, accepted, named, mark, place, result)
+
+  -- the event as it was accepted, and its answer
+  abbrev pub done : Table → Event → Done Event Answer
+  done t e = record { event = named e (answer t e); answer = answer t e }
+
+  abbrev pub final : Table → List Event → Table
+  final t [] = t
+  final t (e ∷ es) = final (next t e) es
+
+  -- the accepted events, named, with their answers
+  abbrev pub run : Table → List Event → List (Done Event Answer)
+  run t [] = []
+  run t (e ∷ es) = keep (accepted (answer t e)) (done t e) (run (next t e) es)
+
+  abbrev pub stays : Stays (Done Event Answer) → List (Done Event Answer) → Stays (Done Event Answer)
+  stays s [] = s
+  stays s (x ∷ xs) = stays (add (mark x) (place x) x s) xs
+
+  -- from `t` every event is accepted with the answer beside it, and `u` is the table after them
+  pub data Replays : Table → List (Done Event Answer) → Table → Type 0 where
+    stop : {t : Table} → Replays t [] t
+    go : {t u : Table} {x : Done Event Answer} {xs : List (Done Event Answer)} → answer t (x .event) ≡ x .answer → accepted (x .answer) ≡ true
+        → Replays (next t (x .event)) xs u → Replays t (x ∷ xs) u
+
+  -- the events of each stay
+  abbrev pub allStays : Stays (Done Event Answer) → List (List (Done Event Answer))
+  allStays s = s .ended ++ map (λ (r : Stay (Done Event Answer)). r .events) (s .running)
+
+  -- THE DEMAND, first part
+  abbrev pub Rearranges : Type 0
+  Rearranges = (es : List Event) → Replays empty (stayByStay (stays none (run empty es))) (final empty es)
+
+  -- THE DEMAND, second part: every stay has at most one accepted pickup result
+  abbrev pub OneResult : Type 0
+  OneResult = (es : List Event) → Every (λ xs. count result xs ≤ 1) (allStays (stays none (run empty es)))
+
+  -- THE DEMAND, that it is a rearrangement: whatever is counted, the events are the same
+  abbrev pub SameEvents : Type 0
+  SameEvents = (f : Done Event Answer → Bool) (es : List Event) → count f (stayByStay (stays none (run empty es))) ≡ count f (run empty es)
