@@ -28,29 +28,29 @@ use Rattle.table.specs.Search.{holds, isAt, findCall, lowestIn}
 use Rattle.table.specs.Sound.{isSound}
 use Rattle.table.proofs.Calls.{holds-occupied}
 use Rattle.table.proofs.Searches.{found-passes, none-passes}
 use Rattle.step.specs.declared.Event.{Event}
 use Rattle.step.specs.declared.rule.Rule.{Rule}
 use Rattle.step.specs.declared.rule.Rule.the-variants.{Start, On, Unknown}
 use Rattle.step.specs.declared.rule.Signal.{Signal}
 use Rattle.step.specs.declared.rule.Signal.the-variants.{LocalPickup, PickRequest, PickupResult, PickupError, ErrorInRelease, Release, Answered, Expiry}
 use Rattle.step.specs.declared.message.Message.{Message}
 use Rattle.step.specs.declared.message.Message.the-variants.{Connect, Facility}
 use Rattle.step.specs.declared.refusal.Refusal.{Refusal}
 use Rattle.step.specs.declared.refusal.Refusal.the-variants.{ChoiceOrTimer, SideFull, CallNotHeld, NothingWaits}
 use Rattle.step.specs.declared.turn.Stage.{Stage}
 use Rattle.step.specs.declared.turn.Stage.the-variants.{AskedHere, AskedFrom}
 use Rattle.step.specs.declared.turn.Outcome.{Outcome}
 use Rattle.step.specs.declared.turn.Outcome.the-variants.{Refused, Freed, Becomes}
 use Rattle.step.specs.declared.aim.Aim.{Aim}
 use Rattle.step.specs.declared.aim.Aim.the-variants.{To, Nowhere}
 use Rattle.step.specs.Rule.{ruleOf}
 use Rattle.step.specs.Refusal.{refusalNumber}
 use Rattle.step.specs.Turn.{stageBy, up, pickedUp, isOutstanding, resulted, failed, failedInRelease, answered, runs, expired, turnOn}
 use Rattle.step.specs.Aim.{aimAt, indexOf, isProposed, chosen, unlessHeld, aimNew, aimNamed, aimPickup, isTimer, aimExpiry, aimOn, aim, nextWaiting}
 use Rattle.step.specs.Step.{settled, carriedOut, stepOf}
 use Rattle.step.specs.Promises.{Full}
-use Rattle.step.specs.Order.{firstOf, isFound, recordFound, sideFound, isTaken, isAsked, rows, InOrder}
+use Rattle.order.specs.Order.{firstOf, isFound, recordFound, sideFound, isTaken, isAsked, rows, InOrder}
 use Rattle.step.proofs.Aims.{proposed-side}
 
 -- ---- the number of an outcome
 
