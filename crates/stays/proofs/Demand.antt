@@ -1,8 +1,9 @@
 -- THE THEOREMS of `specs/Demand.antt`, by their names there. The first three hold of every machine that keeps the laws, and so of
--- the table; the other two are proved in `EachStay` and `Requester`.
+-- the table; the next two are proved in `EachStay` and `Requester`, and the last is computed.
 -- Assumes nothing.
+use mathlib.Core.Path.{refl}
 use Rattle.stays.specs.ParkTable.{machine}
-use Rattle.stays.specs.Demand.{ReplaysByStay, HasSameEvents, HasOneResult}
+use Rattle.stays.specs.Demand.{ReplaysByStay, HasSameEvents, HasOneResult, StaysInOrder}
 use Rattle.stays.proofs.Keep as Keep
 use Rattle.stays.proofs.Once as Once
 use Rattle.stays.proofs.Same as Same
@@ -18,3 +19,6 @@ same-events = Same.same-events machine laws
 
 pub one-result : HasOneResult
 one-result = Once.one-result machine laws
+
+pub stays-in-order : StaysInOrder
+stays-in-order = refl

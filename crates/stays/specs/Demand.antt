@@ -3,7 +3,7 @@
 -- of `ParkTable.antt`.
 -- Assumes nothing.
 use mathlib.Core.Path.{_≡_}
-use mathlib.Core.List.{List, [], _∷_, _++_}
+use mathlib.Core.List.{List, [], _∷_, _++_, map}
 use Prim.Native.Nat.{ℕ}
 use Rattle.table.specs.declared.Place.{Place}
 use Rattle.table.specs.declared.Connection.{Connection}
@@ -15,7 +15,8 @@ use Rattle.step.specs.declared.rule.Rule.{Rule}
 use Rattle.step.specs.declared.rule.Rule.the-variants.{Start, On}
 use Rattle.step.specs.declared.rule.Signal.the-variants.{PickRequest, PickupResult}
 use Rattle.step.specs.Rule.{ruleOf}
-use Rattle.stays.specs.Stays.{Done, Stays, Every, none, run, stays, allStays, Rearranges, SameEvents, OneResult}
+use Rattle.step.specs.Edges.{event}
+use Rattle.stays.specs.Stays.{Done, Stays, Every, none, run, stays, allStays, stayByStay, Rearranges, SameEvents, OneResult}
 use Rattle.stays.specs.ParkTable.{machine}
 
 -- an accepted event, by name, with its answer
@@ -109,3 +110,13 @@ AllTell before (x ∷ xs) = TellsRequester before x × AllTell (before ++ (x ∷
 -- `tells-requester`
 abbrev pub TellsItsRequester : Type 0
 TellsItsRequester = (es : List Event) → Every (AllTell []) (allStays machine (staysOf es))
+
+-- ---- (f): in which order the running stays come
+
+-- a park that proposes 2, and after it one that proposes 1
+abbrev pub twoParks : List Event
+twoParks = event 1 1 2 0 0 ∷ event 1 2 1 0 0 ∷ []
+
+-- `stays-in-order`: the stay that began first comes first, wherever it is
+abbrev pub StaysInOrder : Type 0
+StaysInOrder = map (λ (x : Act). x .answer .place .0) (stayByStay (staysOf twoParks)) ≡ 2 ∷ 1 ∷ []

@@ -1,7 +1,7 @@
 -- The sum of the digits, each at most twenty, is the length of the line.
 -- Assumes nothing.
 use mathlib.Core.Path.{_≡_}
-use Prim.Native.Nat.{_≤_}
+use Prim.Native.Nat.{_+_, _≤_}
 use native.Mathlib.Omega.{arith}
 use lib.ListN.{length}
 use borrow.Author.Needs.{needs}
@@ -43,6 +43,26 @@ few5 c = few-digits (c .digits5 .result) _ (c .digits5 .ensures)
 
 few6 : (c : tie.After-digits6) → c .digits6 .result ≤ 20
 few6 c = few-digits (c .digits6 .result) _ (c .digits6 .ensures)
+
+-- the place after each call, from the last one
+abbrev at5 : tie.After-digits6 → tie.After-digits5
+at5 c = by6 c
+
+abbrev at4 : tie.After-digits6 → tie.After-digits4
+at4 c = by5 (at5 c)
+
+abbrev at3 : tie.After-digits6 → tie.After-digits3
+at3 c = by4 (at4 c)
+
+abbrev at2 : tie.After-digits6 → tie.After-digits2
+at2 c = by3 (at3 c)
+
+abbrev at1 : tie.After-digits6 → tie.After-digits
+at1 c = by2 (at2 c)
+
+-- so no sum of them runs over
+few-all : (c : tie.After-digits6) → at1 c .digits .result + at2 c .digits2 .result + at3 c .digits3 .result + at4 c .digits4 .result + at5 c .digits5 .result + c .digits6 .result ≤ 120
+few-all c = omega (arith, few1 (at1 c), few2 (at2 c), few3 (at3 c), few4 (at4 c), few5 (at5 c), few6 c)
 
 long : (c : tie.Start) → length (c .args .e .call) ≡ 16
 long c = search needs
@@ -106,32 +126,24 @@ add-last-2 c =
     omega (arith, few4 c4, few5 c5, few6 c)
 
 add-result : tie.Need-add-result
-add-result c =
-    let c5 = by6 c in
-    let c4 = by5 c5 in
-    let c3 = by4 c4 in
-    let c2 = by3 c3 in
-    let c1 = by2 c2 in
-    omega (arith, few1 c1, few2 c2, few3 c3, few4 c4, few5 c5, few6 c)
+add-result c = omega (arith, few-all c)
 
 add-result-2 : tie.Need-add-result-2
-add-result-2 c =
-    let c5 = by6 c in
-    let c4 = by5 c5 in
-    let c3 = by4 c4 in
-    let c2 = by3 c3 in
-    let c1 = by2 c2 in
-    omega (arith, few1 c1, few2 c2, few3 c3, few4 c4, few5 c5, few6 c)
+add-result-2 c = omega (arith, few-all c)
 
 returns : tie.Need-returns
 returns c =
-    let c5 = by6 c in
-    let c4 = by5 c5 in
-    let c3 = by4 c4 in
-    let c2 = by3 c3 in
-    let c1 = by2 c2 in
-    let s = c1 .before .before in
-    omega (arith, length-event (s .args .e) (long s), c1 .digits .ensures, c2 .digits2 .ensures, c3 .digits3 .ensures, c4 .digits4 .ensures, c5 .digits5 .ensures, c .digits6 .ensures)
+    let s = at1 c .before .before in
+    omega (
+      arith,
+      length-event (s .args .e) (long s),
+      at1 c .digits .ensures,
+      at2 c .digits2 .ensures,
+      at3 c .digits3 .ensures,
+      at4 c .digits4 .ensures,
+      at5 c .digits5 .ensures,
+      c .digits6 .ensures,
+    )
 
 pub event-length-spec : {M : Type 1} → statement M
 event-length-spec =
