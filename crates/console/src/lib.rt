@@ -21,12 +21,10 @@ fn within(n: usize, buf: &[u8]) -> usize
     if n < buf.len() { n } else { buf.len() }
 }
 
-// Reads once, and writes what is answered to it. The answers to 1,024 octets fit 65,536: none is longer than 61.
-fn answer_some(s: Session) -> Turn {
-    let mut piece = [0u8; 1024];
-    let mut out = io::large_buffer();
-    let got = libc::read(STDIN_FILENO, &mut piece);
-    let n = io::count(got, &piece);
+// Reads once, and writes what is answered to it. The buffer has 61 octets for each octet of the piece, so that all answers fit.
+fn answer_some(s: Session, piece: &mut [u8], out: &mut [u8]) -> Turn {
+    let got = libc::read(STDIN_FILENO, piece);
+    let n = io::count(got, piece);
     if n == 0 {
         return Turn {
             ended: true,
@@ -34,9 +32,9 @@ fn answer_some(s: Session) -> Turn {
             session: s,
         };
     }
-    let fed = session::feed(s, &piece[..n], &mut out);
+    let fed = session::feed(s, &piece[..n], out);
     let next = fed.session;
-    let count = within(fed.written, &out);
+    let count = within(fed.written, out);
     let written = io::write_all(STDOUT_FILENO, &out[..count]);
     Turn {
         ended: false,
@@ -56,9 +54,11 @@ fn answer_last(s: Session) {
 // input does: the turns are counted down from a number that no run uses up.
 pub fn answer_all() {
     let mut s = Session::start();
+    let mut piece = [0u8; 8192];
+    let mut out = [0u8; 499712];
     let mut turns = u64::MAX;
     while turns > 0 {
-        let t = answer_some(s);
+        let t = answer_some(s, &mut piece, &mut out);
         s = t.session;
         if t.failed {
             return;

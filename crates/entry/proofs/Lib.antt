@@ -1,2 +1,1 @@
-pub mod WritesBack
 pub mod Unique

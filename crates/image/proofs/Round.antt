@@ -165,7 +165,7 @@ one-image t u f g e = sym (table-back t f) ∙ ap tableFrom e ∙ table-back u g
 
 -- ---- writing what was read
 
-number-back : (n : ℕ) → n < 6 → stateNumber (stateOf n) ≡ n
+pub number-back : (n : ℕ) → n < 6 → stateNumber (stateOf n) ≡ n
 number-back zero h = refl
 number-back (suc zero) h = refl
 number-back (suc (suc zero)) h = refl
@@ -193,7 +193,7 @@ four-octets s h =
     (drop-cons s 19 0 (omega arith) ∙ ap (λ (l : List ℕ). getD s 19 0 ∷ l) (drop-cons s 20 0 (omega arith)))))
 
 -- each number of a list is an octet
-abbrev Octets : List ℕ → Type 0
+abbrev pub Octets : List ℕ → Type 0
 Octets s = (k : ℕ) → k < length s → getD s k 0 < 256
 
 record-octets : (s : List ℕ) → 21 ≤ length s → Octets s → getD s 0 0 < 6 → octetsOf (recordFrom s 0) ≡ take 21 s
@@ -267,7 +267,7 @@ place-image t i r f l h =
 
 -- ---- a table that was read
 
-size-from : (s : List ℕ) (i n : ℕ) → length (recordsFrom s i n) ≡ n
+pub size-from : (s : List ℕ) (i n : ℕ) → length (recordsFrom s i n) ≡ n
 unfolding recordsFrom
 size-from s i zero = refl
 size-from s i (suc n) = ap suc (size-from s (i + 21) n)

@@ -5,11 +5,27 @@ use mathlib.Core.Path.{refl, sym, _∙_}
 use denote.Ref.{now}
 use Rattle.laws.specs.Decides.{Decides, DecidesMemory}
 use Rattle.image.proofs.read_image.Reads as read-image
+use Rattle.image.proofs.read_place.Reads as read-place
+use Rattle.image.proofs.search.find_call.Reads as find-call
+use Rattle.image.proofs.search.lowest_in.Reads as lowest-in
+use Rattle.image.proofs.sound.is_read.Reads as is-read
 use Rattle.image.proofs.write_image.Reads as write-image
 use Rattle.image.proofs.write_place.Reads as write-place
 
 pub read-image-decided : Decides read-image.Post
 read-image-decided κ a x y d e p q = p ∙ sym q
+
+pub is-read-decided : Decides is-read.Post
+is-read-decided κ a x y d e p q = p ∙ sym q
+
+pub read-place-decided : Decides read-place.Post
+read-place-decided κ a x y d e p q = p ∙ sym q
+
+pub find-call-decided : Decides find-call.Post
+find-call-decided κ a x y d e p q = p ∙ sym q
+
+pub lowest-in-decided : Decides lowest-in.Post
+lowest-in-decided κ a x y d e p q = p ∙ sym q
 
 -- the buffer is the second parameter
 pub write-image-decided : DecidesMemory write-image.Post (λ κ d. now (d .1 .0))

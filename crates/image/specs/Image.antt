@@ -11,7 +11,11 @@ use Rattle.table.specs.declared.State.{State}
 use Rattle.table.specs.declared.State.the-variants.{Free, ParkWaiting, LineWaiting, Requested, RemoteRequested, HandedOver}
 use Rattle.table.specs.declared.Record.{Record}
 use Rattle.table.specs.declared.Table.{Table}
-use Rattle.table.specs.Places.{stateNumber, emptyTable}
+use Rattle.table.specs.declared.Side.{Side}
+use Rattle.table.specs.declared.Found.{Found}
+use Rattle.table.specs.declared.Found.the-variants.{Nothing}
+use Rattle.table.specs.Places.{stateNumber, freeRecord, emptyTable}
+use Rattle.table.specs.Search.{findCall, lowestIn}
 use Rattle.table.specs.Sound.{isSound}
 use Rattle.image.specs.declared.ReadImage.{ReadImage}
 
@@ -92,3 +96,14 @@ isRead s = eqb (length s) 2016 && (statesFit s 0 96 && isSound (tableFrom s))
 -- "Reading a refused image gives the empty table"
 abbrev pub readImage : List ℕ → ReadImage
 readImage s = cond (isRead s) (record { number = 0; table = tableFrom s }) (record { number = 25; table = emptyTable })
+
+-- ---- one place, and looking through the places, in an image of the right length
+
+abbrev pub placeRead : ℕ → List ℕ → Record
+placeRead i s = cond (eqb (length s) 2016 && ltb i 96) (recordFrom s (i * 21)) freeRecord
+
+abbrev pub foundIn : List ℕ → List ℕ → Found
+foundIn s call = cond (eqb (length s) 2016) (findCall (tableFrom s) call) Nothing
+
+abbrev pub lowestFound : List ℕ → Side → State → Found
+lowestFound s a u = cond (eqb (length s) 2016) (lowestIn (tableFrom s) a u) Nothing

@@ -1,16 +1,18 @@
 // The table image: 96 times 21 octets. What stands where is defined in specs/, from document 01's "Image".
 
 pub mod octets;
+pub mod search;
+pub mod sound;
+mod words;
 
 use table::Record;
 use table::Table;
-use table::sound;
 ghost use mathlib.Core.Path.{_≡_};
 ghost use Prim.Native.Nat.{_≤_, _<_};
 ghost use lib.ListN.{length};
 ghost use lib.Seq.{sets};
 ghost use Rattle.table.specs.Places.{emptyTable};
-ghost use Rattle.image.specs.Image.{octetsOfAll, imageOf, writtenNumber, written, placeWritten, recordsFrom, statesFit, tableFrom, readImage};
+ghost use Rattle.image.specs.Image.{octetsOfAll, imageOf, writtenNumber, written, placeWritten, placeRead, recordsFrom, tableFrom, readImage};
 
 // What reading an image gives: number 0 and its table, or 25 and the empty table.
 pub struct ReadImage {
@@ -25,21 +27,6 @@ fn refuse() -> ReadImage
         number: 25,
         table: Table::empty(),
     }
-}
-
-// Is no state octet above 5?
-fn states_fit(image: &[u8]) -> bool
-    requires { ⌜ length (now image) ≡ 2016 ⌝ }
-    ensures { λ r. ⌜ r ≡ statesFit (now (image .entry)) 0 96 ⌝ }
-{
-    let mut i: usize = 0;
-    while i < Table::PLACES {
-        if 5 < image[i * 21] {
-            return false;
-        }
-        i += 1;
-    }
-    true
 }
 
 // The table of an image of the right length.
@@ -60,17 +47,10 @@ fn read_places(image: &[u8]) -> Table
 pub fn read_image(image: &[u8]) -> ReadImage
     ensures { λ r. ⌜ r ≡ readImage (now (image .entry)) ⌝ }
 {
-    if image.len() != 2016 {
-        return refuse();
-    }
-    if !states_fit(image) {
-        return refuse();
-    }
-    let t = read_places(image);
-    if sound::is_sound(t) {
+    if sound::is_read(image) {
         ReadImage {
             number: 0,
-            table: t,
+            table: read_places(image),
         }
     } else {
         refuse()
@@ -96,7 +76,7 @@ pub fn write_image(t: Table, out: &mut [u8]) -> u8
     if out.len() != 2016 {
         return 25;
     }
-    if !sound::is_sound(t) {
+    if !table::sound::is_sound(t) {
         return 25;
     }
     put_places(t, out);
@@ -111,5 +91,19 @@ pub fn write_place(i: usize, r: Record, image: &mut [u8])
         if i < Table::PLACES {
             octets::put_record(image, i * 21, r);
         }
+    }
+}
+
+// The record of one place, given by its index; the free record where there is no such place.
+pub fn read_place(i: usize, image: &[u8]) -> Record
+    ensures { λ r. ⌜ r ≡ placeRead i (now (image .entry)) ⌝ }
+{
+    if image.len() != 2016 {
+        return Record::free();
+    }
+    if i < Table::PLACES {
+        octets::read_record(image, i * 21)
+    } else {
+        Record::free()
     }
 }

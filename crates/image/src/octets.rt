@@ -16,7 +16,7 @@ fn wide(x: u8) -> u16
     x as u16
 }
 
-fn join(high: u8, low: u8) -> u16
+pub(crate) fn join(high: u8, low: u8) -> u16
     ensures { λ r. ⌜ r ≡ high * 256 + low ⌝ }
 {
     wide(high) * 256 + wide(low)
@@ -35,7 +35,7 @@ fn state_of(n: u8) -> State
     }
 }
 
-fn read_pair(image: &[u8], at: usize) -> u16
+pub(crate) fn read_pair(image: &[u8], at: usize) -> u16
     requires { ⌜ at + 1 < length (now image) ⌝ }
     ensures { λ r. ⌜ r ≡ pairAt (now (image .entry)) at ⌝ }
 {

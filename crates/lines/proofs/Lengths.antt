@@ -6,8 +6,8 @@ use mathlib.Core.List.{List}
 use Prim.Native.Nat.{ℕ, _+_, _≤_, _<_}
 use native.Mathlib.Omega.{arith}
 use lib.ListN.{length, getD, length-append}
-use Rattle.step.specs.declared.Event.{Event}
-use Rattle.step.specs.declared.Answer.{Answer}
+use Rattle.events.specs.declared.Event.{Event}
+use Rattle.events.specs.declared.Answer.{Answer}
 use Rattle.lines.specs.Numbers.{decimal}
 use Rattle.lines.specs.Calls.{hexOf}
 use Rattle.lines.specs.EventLine.{eventLine}

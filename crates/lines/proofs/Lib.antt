@@ -8,5 +8,5 @@ pub mod Hexadecimal
 pub mod Lengths
 pub mod Rests
 pub mod Round
+pub mod ReadCalls
 pub mod Unique
-pub mod LineSteps

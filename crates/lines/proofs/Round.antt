@@ -16,7 +16,7 @@ use Rattle.lines.specs.EventLine.{eventOf, unread, read, from2, from3, f
 use Rattle.lines.specs.declared.numbers.Number.{Number}
 use Rattle.lines.specs.declared.numbers.Number.the-variants.{Is, Bad}
 use Rattle.lines.specs.declared.calls.ReadCall.{ReadCall}
-use Rattle.step.specs.declared.Event.{Event}
+use Rattle.events.specs.declared.Event.{Event}
 use Rattle.lines.specs.declared.ReadEvent.{ReadEvent}
 use Rattle.lines.proofs.Passed.{cond-past, cond-into}
 use Rattle.lines.proofs.Joined.{join-before, join-after, join-tabs, last-before, cut-line, cut-tabs}

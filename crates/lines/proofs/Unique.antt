@@ -5,8 +5,6 @@ use mathlib.Core.Path.{sym, _∙_}
 use denote.Ref.{now}
 use Rattle.laws.specs.Decides.{Decides, DecidesSeen, DecidesMemory}
 use Rattle.lines.proofs.fields.first_field.Reads as first-field
-use Rattle.lines.proofs.fields.after_tab.Reads as after-tab
-use Rattle.lines.proofs.fields.count_tabs.Reads as count-tabs
 use Rattle.lines.proofs.numbers.read_number.Reads as read-number
 use Rattle.lines.proofs.numbers.digits.Reads as digits
 use Rattle.lines.proofs.calls.read_call.Reads as read-call
@@ -15,16 +13,9 @@ use Rattle.lines.proofs.event_length.Reads as event-length
 use Rattle.lines.proofs.write_event.Reads as write-event
 use Rattle.lines.proofs.answer_length.Reads as answer-length
 use Rattle.lines.proofs.write_answer.Reads as write-answer
-use Rattle.lines.proofs.step_line.Reads as step-line
 
 pub first-field-decided : DecidesSeen first-field.Post (λ κ x. now x)
 first-field-decided κ a x y d e p q = p ∙ sym q
-
-pub after-tab-decided : DecidesSeen after-tab.Post (λ κ x. now x)
-after-tab-decided κ a x y d e p q = p ∙ sym q
-
-pub count-tabs-decided : Decides count-tabs.Post
-count-tabs-decided κ a x y d e p q = p ∙ sym q
 
 pub read-number-decided : Decides read-number.Post
 read-number-decided κ a x y d e p q = p ∙ sym q
@@ -49,6 +40,3 @@ answer-length-decided κ a x y d e p q = p ∙ sym q
 
 pub write-answer-decided : DecidesMemory write-answer.Post (λ κ d. now (d .1 .0))
 write-answer-decided κ a x y d e p q = (p .0 ∙ sym (q .0), p .1 ∙ sym (q .1))
-
-pub step-line-decided : Decides step-line.Post
-step-line-decided κ a x y d e p q = p ∙ sym q

@@ -3,7 +3,7 @@
 -- Assumes nothing.
 use mathlib.Core.List.{List, [], _∷_, _++_}
 use Prim.Native.Nat.{ℕ}
-use Rattle.step.specs.declared.Answer.{Answer}
+use Rattle.events.specs.declared.Answer.{Answer}
 use Rattle.lines.specs.Numbers.{decimal}
 use Rattle.lines.specs.Calls.{hexOf}
 use Rattle.lines.specs.EventLine.{joined}

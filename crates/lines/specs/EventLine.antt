@@ -7,7 +7,7 @@ use Prim.Native.Nat.{ℕ}
 use lib.Dec.{ltb, eqb}
 use lib.ListN.{length}
 use Rattle.table.specs.Places.{noCall}
-use Rattle.step.specs.declared.Event.{Event}
+use Rattle.events.specs.declared.Event.{Event}
 use Rattle.lines.specs.declared.numbers.Number.{Number}
 use Rattle.lines.specs.declared.numbers.Number.the-variants.{Is, Bad}
 use Rattle.lines.specs.declared.calls.ReadCall.{ReadCall}

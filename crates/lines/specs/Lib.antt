@@ -3,4 +3,3 @@ pub mod Numbers
 pub mod Calls
 pub mod EventLine
 pub mod AnswerLine
-pub mod LineStep

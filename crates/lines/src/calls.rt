@@ -1,13 +1,11 @@
 // Calls as 32 lowercase hexadecimal digits.
 
-use crate::fields;
 ghost use mathlib.Core.Path.{_≡_};
 ghost use mathlib.Core.List.{_++_, _∷_, []};
 ghost use Prim.Native.Nat.{_+_, _/_, _%_, _<_};
 ghost use lib.ListN.{length};
 ghost use lib.Seq.{sets};
-ghost use Rattle.lines.specs.Fields.{before};
-ghost use Rattle.lines.specs.Calls.{nibbleOf, callOf, digitOf, hexOf};
+ghost use Rattle.lines.specs.Calls.{nibbleOf, badCall, callOf, digitOf, hexOf};
 
 pub struct ReadCall {
     pub good: bool,
@@ -33,47 +31,48 @@ fn nibble(x: u8) -> u8
     16
 }
 
-// The call that a field says.
+// What reading gives for a field that is no call.
+fn bad_call() -> ReadCall
+    ensures { λ r. ⌜ r ≡ badCall ⌝ }
+{
+    ReadCall {
+        good: false,
+        call: [0u8; 16],
+    }
+}
+
+// The call that a field says. A loop that ends early would take one digit at a time: so the first loop reads the values of all digits and
+// keeps the largest, which tells whether each was one, and the second makes octets of them.
 pub fn read_call(part: &[u8]) -> ReadCall
     ensures { λ r. ⌜ r ≡ callOf (now (part .entry)) ⌝ }
 {
-    let mut a = [0u8; 16];
     if part.len() != 32 {
-        return ReadCall {
-            good: false,
-            call: a,
-        };
+        return bad_call();
     }
+    let mut values = [0u8; 32];
+    let mut most: u8 = 0;
+    let mut k: usize = 0;
+    while k < 32 {
+        let v = nibble(part[k]);
+        values[k] = v;
+        if most < v {
+            most = v;
+        }
+        k += 1;
+    }
+    if 15 < most {
+        return bad_call();
+    }
+    let mut a = [0u8; 16];
     let mut i: usize = 0;
     while i < 16 {
-        let h = nibble(part[i * 2]);
-        let l = nibble(part[i * 2 + 1]);
-        if 15 < h {
-            return ReadCall {
-                good: false,
-                call: [0u8; 16],
-            };
-        }
-        if 15 < l {
-            return ReadCall {
-                good: false,
-                call: [0u8; 16],
-            };
-        }
-        a[i] = h * 16 + l;
+        a[i] = values[i * 2] * 16 + values[i * 2 + 1];
         i += 1;
     }
     ReadCall {
         good: true,
         call: a,
     }
-}
-
-// The call that the first field of a line says.
-pub(crate) fn first_call(s: &[u8]) -> ReadCall
-    ensures { λ r. ⌜ r ≡ callOf (before (now (s .entry))) ⌝ }
-{
-    read_call(fields::first_field(s))
 }
 
 // The digit of a value below 16.

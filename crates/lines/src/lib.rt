@@ -6,15 +6,12 @@ pub mod calls;
 pub mod fields;
 pub mod numbers;
 
+use events::Answer;
+use events::Event;
 use numbers::Number;
-use step::Answer;
-use step::Event;
-use step::Step;
-use step::answers;
 use table::Connection;
 use table::Invoke;
 use table::Place;
-use table::Table;
 ghost use mathlib.Core.Path.{_≡_};
 ghost use mathlib.Core.Bool.{cond};
 ghost use Prim.Native.Nat.{_≤_};
@@ -23,7 +20,6 @@ ghost use lib.ListN.{length};
 ghost use lib.Seq.{sets};
 ghost use Rattle.lines.specs.EventLine.{unread, readLine, eventLine};
 ghost use Rattle.lines.specs.AnswerLine.{answerLine};
-ghost use Rattle.lines.specs.LineStep.{lineStep};
 
 // What reading a line gives: number 0 and the event, or the refusal and the event of all zeros.
 pub struct ReadEvent {
@@ -59,32 +55,39 @@ pub fn read_event(line: &[u8]) -> ReadEvent
     if fields::count_tabs(line) != 6 {
         return refuse(22);
     }
-    let Number::Is(kind) = numbers::first_number(line, 255) else {
+    let field1 = fields::first_field(line);
+    let Number::Is(kind) = numbers::read_number(field1, 255) else {
         return refuse(23);
     };
-    let from2 = fields::after_tab(line);
-    let c = calls::first_call(from2);
+    let from2 = fields::after_field(line, field1.len());
+    let field2 = fields::first_field(from2);
+    let c = calls::read_call(field2);
     if !c.good {
         return refuse(24);
     }
-    let from3 = fields::after_tab(from2);
-    let Number::Is(place) = numbers::first_number(from3, 65535) else {
+    let from3 = fields::after_field(from2, field2.len());
+    let field3 = fields::first_field(from3);
+    let Number::Is(place) = numbers::read_number(field3, 65535) else {
         return refuse(23);
     };
-    let from4 = fields::after_tab(from3);
-    let Number::Is(choice) = numbers::first_number(from4, 255) else {
+    let from4 = fields::after_field(from3, field3.len());
+    let field4 = fields::first_field(from4);
+    let Number::Is(choice) = numbers::read_number(field4, 255) else {
         return refuse(23);
     };
-    let from5 = fields::after_tab(from4);
-    let Number::Is(connection) = numbers::first_number(from5, 65535) else {
+    let from5 = fields::after_field(from4, field4.len());
+    let field5 = fields::first_field(from5);
+    let Number::Is(connection) = numbers::read_number(field5, 65535) else {
         return refuse(23);
     };
-    let from6 = fields::after_tab(from5);
-    let Number::Is(invoke) = numbers::first_number(from6, 65535) else {
+    let from6 = fields::after_field(from5, field5.len());
+    let field6 = fields::first_field(from6);
+    let Number::Is(invoke) = numbers::read_number(field6, 65535) else {
         return refuse(23);
     };
-    let from7 = fields::after_tab(from6);
-    let Number::Is(timer) = numbers::first_number(from7, 255) else {
+    let from7 = fields::after_field(from6, field6.len());
+    let field7 = fields::first_field(from7);
+    let Number::Is(timer) = numbers::read_number(field7, 255) else {
         return refuse(23);
     };
     let call = c.call;
@@ -184,20 +187,4 @@ pub fn write_answer(a: Answer, out: &mut [u8]) -> usize
         return 0;
     }
     put_answer(a, out)
-}
-
-// A line at a table: the step of the event that it says, or its refusal, which keeps the table.
-pub fn step_line(t: Table, line: &[u8]) -> Step
-    ensures { λ r. ⌜ r ≡ lineStep t (now (line .entry)) ⌝ }
-{
-    let read = read_event(line);
-    if read.number == 0 {
-        let e = read.event;
-        step::single_step(t, e)
-    } else {
-        Step {
-            table: t,
-            answer: answers::only_number(read.number),
-        }
-    }
 }

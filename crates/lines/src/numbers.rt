@@ -1,12 +1,10 @@
 // Decimal numbers without leading zeros.
 
-use crate::fields;
 ghost use mathlib.Core.Path.{_≡_};
 ghost use mathlib.Core.List.{_++_, _∷_, []};
 ghost use Prim.Native.Nat.{_+_, _≤_, _<_};
 ghost use lib.ListN.{length};
 ghost use lib.Seq.{sets};
-ghost use Rattle.lines.specs.Fields.{before};
 ghost use Rattle.lines.specs.Numbers.{numberOf, decimal};
 
 pub enum Number {
@@ -54,13 +52,6 @@ pub fn read_number(part: &[u8], most: u64) -> Number
         i += 1;
     }
     Number::Is(v)
-}
-
-// The number that the first field of a line says.
-pub(crate) fn first_number(s: &[u8], most: u64) -> Number
-    ensures { λ r. ⌜ r ≡ numberOf (before (now (s .entry))) most ⌝ }
-{
-    read_number(fields::first_field(s), most)
 }
 
 // How many digits a number has.

@@ -19,9 +19,10 @@ use Rattle.table.specs.Places.{sameState, sideAt, freeRecord, recordAt}
 use Rattle.table.specs.Timers.{timerSet}
 use Rattle.table.specs.Search.{findCall, lowestIn}
 use Rattle.table.specs.Sound.{isSound}
-use Rattle.step.specs.declared.Event.{Event}
-use Rattle.step.specs.Turn.{isOutstanding, runs}
-use Rattle.step.specs.Aim.{isTimer, nextWaiting}
+use Rattle.events.specs.declared.Event.{Event}
+use Rattle.events.specs.Turn.{isOutstanding, runs}
+use Rattle.events.specs.Sought.{isTimer}
+use Rattle.step.specs.Aim.{nextWaiting}
 use Rattle.step.specs.Step.{stepOf}
 use Rattle.step.specs.Promises.{Full}
 

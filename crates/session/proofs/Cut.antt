@@ -14,9 +14,13 @@ use lib.Seq.{take-all, length-take-le, take-append-le, take-suc-set}
 use borrow.Author.Tests.{lt-ltb, ltb-true, ltb-false, ne-eqb}
 use Rattle.laws.proofs.Bools.{less-or}
 use Rattle.table.specs.declared.Table.{Table}
+use Rattle.table.specs.Places.{emptyTable}
 use Rattle.lines.specs.EventLine.{readLine}
-use Rattle.lines.specs.LineStep.{stepRead, lineStep}
+use Rattle.lent.specs.LineStep.{stepRead, lineStep}
 use Rattle.lines.specs.AnswerLine.{answerLine}
+use Rattle.image.specs.Image.{imageOf}
+use Rattle.lent.specs.Lent.{stepOn, leftOn}
+use Rattle.lent.proofs.Tables.{Good, on-image, left-image, line-good, empty-good, empty-image}
 use Rattle.session.specs.declared.Session.{Session}
 use Rattle.session.specs.Stream.{lastLine, linesFrom, answersFrom}
 use Rattle.session.specs.Session.{started, pending, endLine, keep, restart, next, saysTo, after, said, saidLast, joinedPieces, saidToAll, CutAnyhow}
@@ -59,25 +63,38 @@ step-by-63 t line = ap (stepRead t) (read-by-63 line)
 
 -- ---- a session that holds what has come of a line
 
-record Holds (s : Session) (line : List ℕ) : Type 0 where
+record Holds (s : Session) (t : Table) (line : List ℕ) : Type 0 where
+  good : Good t
+  image : s .image ≡ imageOf t
   size : length (s .kept) ≡ 63
   below : s .len ≤ 63
   text : pending s ≡ take 63 line
 
-module _ (s : Session) (line : List ℕ) (h : Holds s line) where
+module _ (s : Session) (t : Table) (line : List ℕ) (h : Holds s t line) where
   held-length : length (take 63 line) ≡ s .len
   held-length = ap length (sym (h .text)) ∙ length-take-le (s .len) (s .kept) (omega (arith, h .size, h .below))
 
-  held-step : endLine s ≡ lineStep (s .table) line
-  held-step = ap (lineStep (s .table)) (h .text) ∙ step-by-63 (s .table) line
+  held-step : endLine s ≡ lineStep t line
+  held-step =
+      ap (λ o. stepOn o (pending s)) (h .image)
+      ∙ ap (stepOn (imageOf t)) (h .text)
+      ∙ on-image t (h .good) (take 63 line)
+      ∙ step-by-63 t line
 
-  restart-holds : Holds (restart s) []
-  restart-holds = record { size = h .size; below = omega arith; text = refl }
+  held-image : leftOn (s .image) (pending s) ≡ imageOf (lineStep t line .table)
+  held-image =
+      ap (λ o. leftOn o (pending s)) (h .image)
+      ∙ ap (leftOn (imageOf t)) (h .text)
+      ∙ left-image t (h .good) (take 63 line)
+      ∙ ap (λ r. imageOf (r .table)) (step-by-63 t line)
 
-  keep-holds : (o : ℕ) → Holds (keep s o) (line ++ (o ∷ []))
+  restart-holds : Holds (restart s) (lineStep t line .table) []
+  restart-holds = record { good = line-good t (h .good) line; image = held-image; size = h .size; below = omega arith; text = refl }
+
+  keep-holds : (o : ℕ) → Holds (keep s o) t (line ++ (o ∷ []))
   keep-holds o = by (ltb (s .len) 63) refl
     where
-      by : (b : Bool) → ltb (s .len) 63 ≡ b → Holds (cond b (record { table = s .table; kept = set (s .kept) (s .len) o; len = s .len + 1 }) s) (line ++ (o ∷ []))
+      by : (b : Bool) → ltb (s .len) 63 ≡ b → Holds (cond b (record { image = s .image; kept = set (s .kept) (s .len) o; len = s .len + 1 }) s) t (line ++ (o ∷ []))
       by true q =
           let room : s .len < 63 = ltb-true (s .len) 63 q in
           let short : length line < 63 = ⊎-elim (λ a. a) (λ b. absurd (omega (arith, held-length, length-take-le 63 line b))) (less-or (length line) 63) in
@@ -85,6 +102,8 @@ module _ (s : Session) (line : List ℕ) (h : Holds s line) where
           let more : take 63 (line ++ (o ∷ [])) ≡ line ++ (o ∷ []) = take-all 63 (line ++ (o ∷ [])) (omega (arith, length-append line (o ∷ []))) in
           let stored : take (suc (s .len)) (set (s .kept) (s .len) o) ≡ take (s .len) (s .kept) ++ (o ∷ []) = take-suc-set (s .kept) (s .len) o (omega (arith, h .size)) in
           record {
+            good = h .good;
+            image = h .image;
             size = length-set (s .kept) (s .len) o ∙ h .size;
             below = omega arith;
             text = rw (add-one (s .len), stored, h .text, all, more);
@@ -92,36 +111,34 @@ module _ (s : Session) (line : List ℕ) (h : Holds s line) where
       by false q =
           let full : 63 ≤ s .len = ltb-false (s .len) 63 q in
           let long : 63 ≤ length line = ⊎-elim (λ a. absurd (omega (arith, held-length, ap length (take-all 63 line (omega arith)), h .below))) (λ b. b) (less-or (length line) 63) in
-          record { size = h .size; below = h .below; text = h .text ∙ sym (take-append-le 63 line (o ∷ []) long) }
+          record { good = h .good; image = h .image; size = h .size; below = h .below; text = h .text ∙ sym (take-append-le 63 line (o ∷ []) long) }
 
 -- the last line
-said-last : (s : Session) (line : List ℕ) → Holds s line → saidLast s ≡ answersFrom (s .table) (lastLine line)
-said-last s [] h = let none : s .len ≡ 0 = sym (held-length s [] h) in rw none
-said-last s (o ∷ os) h =
-    let some : s .len ≡ suc (length (take 62 os)) = sym (held-length s (o ∷ os) h) in
+said-last : (s : Session) (t : Table) (line : List ℕ) → Holds s t line → saidLast s ≡ answersFrom t (lastLine line)
+said-last s t [] h = let none : s .len ≡ 0 = sym (held-length s t [] h) in rw none
+said-last s t (o ∷ os) h =
+    let some : s .len ≡ suc (length (take 62 os)) = sym (held-length s t (o ∷ os) h) in
     let more : eqb (s .len) 0 ≡ false = ne-eqb (s .len) 0 (λ z. omega arith) in
-    rw (more, held-step s (o ∷ os) h, append-nil (answerLine (lineStep (s .table) (o ∷ os) .answer)))
+    rw (more, held-step s t (o ∷ os) h, append-nil (answerLine (lineStep t (o ∷ os) .answer)))
 
 -- THE WHOLE STREAM, where some octets of a line have come
-whole-stream : (stream : List ℕ) (s : Session) (line : List ℕ) → Holds s line → whole s stream ≡ answersFrom (s .table) (linesFrom line stream)
-whole-stream [] s line h = said-last s line h
-whole-stream (o ∷ os) s line h = by (eqb o 10) (whole-stream os)
+whole-stream : (stream : List ℕ) (s : Session) (t : Table) (line : List ℕ) → Holds s t line → whole s stream ≡ answersFrom t (linesFrom line stream)
+whole-stream [] s t line h = said-last s t line h
+whole-stream (o ∷ os) s t line h = by (eqb o 10) (whole-stream os)
   where
-    by : (b : Bool) → ((u : Session) (l : List ℕ) → Holds u l → whole u os ≡ answersFrom (u .table) (linesFrom l os))
+    by : (b : Bool) → ((u : Session) (v : Table) (l : List ℕ) → Holds u v l → whole u os ≡ answersFrom v (linesFrom l os))
         → (cond b (answerLine (endLine s .answer)) [] ++ said (cond b (restart s) (keep s o)) os) ++ saidLast (after (cond b (restart s) (keep s o)) os)
-        ≡ answersFrom (s .table) (cond b (line ∷ linesFrom [] os) (linesFrom (line ++ (o ∷ [])) os))
+        ≡ answersFrom t (cond b (line ∷ linesFrom [] os) (linesFrom (line ++ (o ∷ [])) os))
     by true later =
-        let rest = later (restart s) [] (restart-holds s line h) in
+        let rest = later (restart s) (lineStep t line .table) [] (restart-holds s t line h) in
         append-assoc (answerLine (endLine s .answer)) (said (restart s) os) (saidLast (after (restart s) os))
         ∙ ap (λ x. answerLine (endLine s .answer) ++ x) rest
-        ∙ rw (held-step s line h)
-    by false later =
-        let same : keep s o .table ≡ s .table = kept-table (ltb (s .len) 63) in
-        later (keep s o) (line ++ (o ∷ [])) (keep-holds s line h o) ∙ ap (λ t. answersFrom t (linesFrom (line ++ (o ∷ [])) os)) same
-      where
-        kept-table : (b : Bool) → cond b (record { table = s .table; kept = set (s .kept) (s .len) o; len = s .len + 1 }) s .table ≡ s .table
-        kept-table true = refl
-        kept-table false = refl
+        ∙ ap (λ r. answerLine (r .answer) ++ answersFrom (lineStep t line .table) (linesFrom [] os)) (held-step s t line h)
+    by false later = later (keep s o) t (line ++ (o ∷ [])) (keep-holds s t line h o)
+
+-- the empty table is good, and its image is all zeros
+started-holds : Holds started emptyTable []
+started-holds = record { good = empty-good; image = sym empty-image; size = refl; below = omega arith; text = refl }
 
 pub cut-anyhow : CutAnyhow
-cut-anyhow ps = pieces-whole started ps ∙ whole-stream (joinedPieces ps) started [] (record { size = refl; below = omega arith; text = refl })
+cut-anyhow ps = pieces-whole started ps ∙ whole-stream (joinedPieces ps) started emptyTable [] started-holds

@@ -1,78 +1,77 @@
--- Keeping a line: one turn of the loop at index i of a piece, its end, and what the kept octets are to a session. Then a whole line of a
--- piece, up to its feed.
+-- Keeping a line: where its feed is, what is kept of it as one run of stores, and what the kept octets are to a session. Then a whole line
+-- of a piece, up to its feed.
 -- Assumes nothing.
 use mathlib.Core.Path.{_≡_, refl, sym, ap, _∙_}
 use mathlib.Core.Bool.{Bool, true, false, cond}
 use mathlib.Core.List.{List, [], _∷_, _++_}
-use Prim.Native.Nat.{ℕ, suc, _+_, _<_, _≤_}
+use Prim.Native.Nat.{ℕ, suc, _+_, _-_, _<_, _≤_, min}
 use native.Mathlib.Numerals.{add-one}
-use native.Mathlib.Nat.{not-suc-le-zero}
+use native.Mathlib.Nat.{not-suc-le-zero, zero-min, min-zero}
 use native.Mathlib.Omega.{arith}
 use lib.Dec.{eqb, ltb}
 use lib.ListN.{length, take, drop, getD, set, drop-of-length-le, length-drop, length-set}
-use lib.Seq.{drop-cons, getD-drop, drop-drop, take-all}
-use borrow.Author.Tests.{eq-eqb, ne-eqb, lt-ltb, le-ltb, eqb-true, ltb-true, ltb-false}
+use lib.Seq.{sets, drop-cons, getD-drop, drop-drop, take-all, take-nil}
+use borrow.Author.Tests.{eq-eqb, ne-eqb, eqb-true, ltb-true, ltb-false}
+use Rattle.laws.proofs.Runs.{at-step}
 use Rattle.session.specs.declared.Session.{Session}
 use Rattle.session.specs.Session.{restart, endLine, after, said}
 use Rattle.session.specs.Keep.{atMost63, keptFrom, lenFrom, untilFeed}
 use Rattle.lines.specs.AnswerLine.{answerLine}
 
--- ---- one turn, at the octet o of index i
+-- ---- looking for the feed: one turn, at the octet of index i, and its end
 
-module _ (piece : List ℕ) (i o : ℕ) (h : i < length piece) (e : o ≡ getD piece i 0) where
-  here : drop i piece ≡ o ∷ drop (i + 1) piece
-  here = rw (add-one i, e) (drop-cons piece i 0 h)
+module _ (piece : List ℕ) (i : ℕ) where
+  module _ (h : i < length piece) where
+    pub feed-until : getD piece i 0 ≡ 10 → untilFeed (drop i piece) ≡ 0
+    feed-until q = rw (at-step piece i h, eq-eqb (getD piece i 0) 10 q)
 
-  module _ (kept : List ℕ) (n : ℕ) where
-    -- a feed ends it
-    pub feed-len : o ≡ 10 → lenFrom n (drop i piece) ≡ n
-    feed-len q = rw (here, eq-eqb o 10 q)
+    pub more-until : (getD piece i 0 ≡ 10 → ⊥) → untilFeed (drop i piece) ≡ suc (untilFeed (drop (i + 1) piece))
+    more-until q = rw (at-step piece i h, ne-eqb (getD piece i 0) 10 q)
 
-    pub feed-kept : o ≡ 10 → keptFrom kept n (drop i piece) ≡ kept
-    feed-kept q = rw (here, eq-eqb o 10 q)
+  pub end-until : length piece ≤ i → untilFeed (drop i piece) ≡ 0
+  end-until h = rw (drop-of-length-le piece h)
 
-    -- an octet with room for it
-    pub room-len : (o ≡ 10 → ⊥) → n < 63 → lenFrom n (drop i piece) ≡ lenFrom (n + 1) (drop (i + 1) piece)
-    room-len q r = rw (here, ne-eqb o 10 q, lt-ltb n 63 r)
+-- ---- the octets before the feed, all at once: as many as there is room for
 
-    pub room-kept : (o ≡ 10 → ⊥) → n < 63 → keptFrom kept n (drop i piece) ≡ keptFrom (set kept n o) (n + 1) (drop (i + 1) piece)
-    room-kept q r = rw (here, ne-eqb o 10 q, lt-ltb n 63 r)
+abbrev pub countKept : ℕ → List ℕ → ℕ
+countKept len os = min (untilFeed os) (63 - len)
 
-    -- an octet with no room
-    pub full-len : (o ≡ 10 → ⊥) → 63 ≤ n → lenFrom n (drop i piece) ≡ lenFrom n (drop (i + 1) piece)
-    full-len q r = rw (here, ne-eqb o 10 q, le-ltb n 63 r)
+pub kept-run : (os kept : List ℕ) (len : ℕ) → keptFrom kept len os ≡ sets kept len (take (countKept len os) os)
+kept-run [] kept len = rw take-nil
+kept-run (o ∷ os) kept len = by (eqb o 10) (ltb len 63) refl (λ k n. kept-run os k n)
+  where
+    by : (b c : Bool) → ltb len 63 ≡ c → ((k : List ℕ) (n : ℕ) → keptFrom k n os ≡ sets k n (take (countKept n os) os))
+        → cond b kept (cond c (keptFrom (set kept len o) (len + 1) os) (keptFrom kept len os))
+        ≡ sets kept len (take (min (cond b 0 (suc (untilFeed os))) (63 - len)) (o ∷ os))
+    by true c r later = rw zero-min
+    by false true r later =
+        let room : min (suc (untilFeed os)) (63 - len) ≡ suc (countKept (len + 1) os) = omega (arith, ltb-true len 63 r) in
+        rw room (later (set kept len o) (len + 1) ∙ rw add-one)
+    by false false r later =
+        let full : 63 - len ≡ 0 = omega (arith, ltb-false len 63 r) in
+        rw (full, min-zero) (later kept len ∙ rw (full, min-zero))
 
-    pub full-kept : (o ≡ 10 → ⊥) → 63 ≤ n → keptFrom kept n (drop i piece) ≡ keptFrom kept n (drop (i + 1) piece)
-    full-kept q r = rw (here, ne-eqb o 10 q, le-ltb n 63 r)
-
-  pub feed-until : o ≡ 10 → untilFeed (drop i piece) ≡ 0
-  feed-until q = rw (here, eq-eqb o 10 q)
-
-  pub more-until : (o ≡ 10 → ⊥) → untilFeed (drop i piece) ≡ suc (untilFeed (drop (i + 1) piece))
-  more-until q = rw (here, ne-eqb o 10 q)
-
--- the end of the piece
-module _ (piece : List ℕ) (i : ℕ) (h : length piece ≤ i) where
-  pub end-len : (n : ℕ) → lenFrom n (drop i piece) ≡ n
-  end-len n = rw (drop-of-length-le piece h)
-
-  pub end-kept : (kept : List ℕ) (n : ℕ) → keptFrom kept n (drop i piece) ≡ kept
-  end-kept kept n = rw (drop-of-length-le piece h)
-
-  pub end-until : untilFeed (drop i piece) ≡ 0
-  end-until = rw (drop-of-length-le piece h)
+pub len-run : (os : List ℕ) (len : ℕ) → lenFrom len os ≡ len + countKept len os
+len-run [] len = omega arith
+len-run (o ∷ os) len = by (eqb o 10) (ltb len 63) refl (λ n. len-run os n)
+  where
+    by : (b c : Bool) → ltb len 63 ≡ c → ((n : ℕ) → lenFrom n os ≡ n + countKept n os)
+        → cond b len (cond c (lenFrom (len + 1) os) (lenFrom len os)) ≡ len + min (cond b 0 (suc (untilFeed os))) (63 - len)
+    by true c r later = omega arith
+    by false true r later = omega (arith, ltb-true len 63 r, later (len + 1))
+    by false false r later = omega (arith, ltb-false len 63 r, later len)
 
 -- ---- what is kept, to a session
 
 abbrev pub keptBy : Session → List ℕ → Session
-keptBy s os = record { table = s .table; kept = keptFrom (s .kept) (s .len) os; len = lenFrom (s .len) os }
+keptBy s os = record { image = s .image; kept = keptFrom (s .kept) (s .len) os; len = lenFrom (s .len) os }
 
 -- the two equations below at an octet, with b where it is a feed and c where there is room for it
 abbrev GoesOn : Session → ℕ → List ℕ → Bool → Bool → Type 0
 GoesOn s o os b c =
-    let u : Session = cond b (restart s) (cond c (record { table = s .table; kept = set (s .kept) (s .len) o; len = s .len + 1 }) s) in
+    let u : Session = cond b (restart s) (cond c (record { image = s .image; kept = set (s .kept) (s .len) o; len = s .len + 1 }) s) in
     let k : Session = record {
-      table = s .table;
+      image = s .image;
       kept = cond b (s .kept) (cond c (keptFrom (set (s .kept) (s .len) o) (s .len + 1) os) (keptFrom (s .kept) (s .len) os));
       len = cond b (s .len) (cond c (lenFrom (s .len + 1) os) (lenFrom (s .len) os));
     } in
@@ -86,7 +85,7 @@ kept-goes-on s (o ∷ os) = by (eqb o 10) (ltb (s .len) 63) refl refl (λ u. kep
   where
     by : (b c : Bool) → eqb o 10 ≡ b → ltb (s .len) 63 ≡ c → ((u : Session) → (after u os ≡ after (keptBy u os) (drop (untilFeed os) os)) × (said u os ≡ said (keptBy u os) (drop (untilFeed os) os))) → GoesOn s o os b c
     by true c q r later = (rw q, rw q)
-    by false true q r later = later (record { table = s .table; kept = set (s .kept) (s .len) o; len = s .len + 1 })
+    by false true q r later = later (record { image = s .image; kept = set (s .kept) (s .len) o; len = s .len + 1 })
     by false false q r later = later s
 
 -- where a feed is found, it stands there

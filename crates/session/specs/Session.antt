@@ -1,4 +1,4 @@
--- A session: the table, and as much of the line that is coming as is needed to answer it. 63 octets are enough: a longer line is
+-- A session: the table as its image, and as much of the line that is coming as is needed to answer it. 63 octets are enough: a longer line is
 -- refused by 21 whatever follows. Octets come in pieces of any size.
 -- Assumes nothing.
 use mathlib.Core.Path.{_≡_}
@@ -8,31 +8,30 @@ use Prim.Native.Nat.{ℕ, _+_, _/_}
 use lib.Dec.{eqb, ltb}
 use lib.ListN.{length, take, set, replicate}
 use lib.Seq.{sets}
-use Rattle.table.specs.Places.{emptyTable}
 use Rattle.step.specs.declared.Step.{Step}
 use Rattle.lines.specs.AnswerLine.{answerLine}
-use Rattle.lines.specs.LineStep.{lineStep}
+use Rattle.lent.specs.Lent.{stepOn, leftOn}
 use Rattle.session.specs.declared.Session.{Session}
 use Rattle.session.specs.declared.Fed.{Fed}
 use Rattle.session.specs.Stream.{answersTo}
 
 abbrev pub started : Session
-started = record { table = emptyTable; kept = replicate 63 0; len = 0 }
+started = record { image = replicate 2016 0; kept = replicate 63 0; len = 0 }
 
 -- what has come of the line
 abbrev pub pending : Session → List ℕ
 pending s = take (s .len) (s .kept)
 
 abbrev pub endLine : Session → Step
-endLine s = lineStep (s .table) (pending s)
+endLine s = stepOn (s .image) (pending s)
 
 -- an octet is kept as long as there is room
 abbrev pub keep : Session → ℕ → Session
-keep s o = cond (ltb (s .len) 63) (record { table = s .table; kept = set (s .kept) (s .len) o; len = s .len + 1 }) s
+keep s o = cond (ltb (s .len) 63) (record { image = s .image; kept = set (s .kept) (s .len) o; len = s .len + 1 }) s
 
--- the line is answered
+-- the line is answered, and the image is what it leaves
 abbrev pub restart : Session → Session
-restart s = record { table = endLine s .table; kept = s .kept; len = 0 }
+restart s = record { image = leftOn (s .image) (pending s); kept = s .kept; len = 0 }
 
 -- the session after an octet, and what it says to it
 abbrev pub next : Session → ℕ → Session

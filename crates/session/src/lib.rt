@@ -1,20 +1,24 @@
-// A session: a stream of octets cut into lines, each answered at the table that the one before it left. The octets come in pieces of
-// any size. What is answered to a stream is defined in specs/Stream.antt, and that it does not depend on the pieces is proved.
+// A session: a stream of octets cut into lines, each answered at the table that the one before it left. The table is kept as its image, and
+// looked through once for each piece. The octets come in pieces of any size. What is answered to a stream is defined in specs/Stream.antt, and that it does not depend on the pieces is proved.
 //
 // Of the line that is coming only 63 octets are kept: a longer one is refused by 21, whatever follows.
 
-use table::Table;
+use events::Answer;
+use events::answers;
+use image::sound;
 ghost use mathlib.Core.Path.{_≡_};
-ghost use Prim.Native.Nat.{_+_, _≤_};
-ghost use lib.ListN.{length, drop};
+ghost use Prim.Native.Nat.{_+_, _-_, _≤_, min};
+ghost use lib.ListN.{length, take, drop};
 ghost use lib.Seq.{sets};
-ghost use Rattle.lines.specs.LineStep.{lineStep};
 ghost use Rattle.lines.specs.AnswerLine.{answerLine};
+ghost use Rattle.image.specs.Image.{isRead};
+ghost use Rattle.lent.specs.Lent.{stepOn, leftOn};
 ghost use Rattle.session.specs.Session.{started, fed, fedOut, finishedOut, finishedCount};
 ghost use Rattle.session.specs.Keep.{atMost63, keptFrom, lenFrom, untilFeed};
 
 pub struct Session {
-    pub table: Table,
+    // the table
+    pub image: [u8; 2016],
     // the front of the line that is coming, and how much of it
     pub kept: [u8; 63],
     pub len: usize,
@@ -33,18 +37,12 @@ struct Kept {
     end: usize,
 }
 
-// A line that has ended: the table after it, and how many octets its answer has.
-struct Ended {
-    table: Table,
-    count: usize,
-}
-
 impl Session {
     pub fn start() -> Session
         ensures { λ r. ⌜ r ≡ started ⌝ }
     {
         Session {
-            table: Table::empty(),
+            image: [0; 2016],
             kept: [0; 63],
             len: 0,
         }
@@ -57,37 +55,77 @@ fn at_most_63(n: usize) -> usize
     if n < 63 { n } else { 63 }
 }
 
+// Where the line from an index on ends: at the next line feed, or at the end of the piece.
+fn find_feed(piece: &[u8], from: usize) -> usize
+    requires { ⌜ from ≤ length (now piece) ⌝ }
+    ensures { λ r. ⌜ (r ≡ from + untilFeed (drop from (now (piece .entry)))) × (r ≤ length (now (piece .entry))) ⌝ }
+{
+    let mut e = from;
+    while e < piece.len() {
+        if piece[e] == 10 {
+            return e;
+        }
+        e += 1;
+    }
+    e
+}
+
+// How many of a line's next octets are kept, where some are kept already: as many as there is room for.
+fn count_kept(len: usize, count: usize) -> usize
+    ensures { λ r. ⌜ r ≡ min count (63 - len) ⌝ }
+{
+    if 63 <= len {
+        return 0;
+    }
+    let room = 63 - len;
+    if count < room { count } else { room }
+}
+
+// Keeps a count of octets from an index of the piece on. A loop that does nothing but copy is compiled to one `memcpy`.
+fn keep_octets(kept: &mut [u8; 63], len: usize, piece: &[u8], from: usize, count: usize)
+    requires { ⌜ (count ≤ 63 - len) × (from + count ≤ length (now piece)) ⌝ }
+    ensures { λ _. ⌜ now (kept .exit) ≡ sets (now (kept .entry)) len (take count (drop from (now (piece .entry)))) ⌝ }
+{
+    let mut k: usize = 0;
+    while k < count {
+        kept[len + k] = piece[from + k];
+        k += 1;
+    }
+}
+
 // Keeps the octets from an index on, up to the next line feed or the end of the piece.
 fn keep_line(kept: &mut [u8; 63], len: usize, piece: &[u8], from: usize) -> Kept
     requires { ⌜ from ≤ length (now piece) ⌝ }
     ensures { λ r. ⌜ (r ≡ record { len = lenFrom len (drop from (now (piece .entry))); end = from + untilFeed (drop from (now (piece .entry))) }) × (now (kept .exit) ≡ keptFrom (now (kept .entry)) len (drop from (now (piece .entry)))) ⌝ }
 {
-    let mut n = len;
-    let mut i = from;
-    while i < piece.len() {
-        let o = piece[i];
-        if o == 10 {
-            return Kept { len: n, end: i };
-        }
-        if n < 63 {
-            kept[n] = o;
-            n += 1;
-        }
-        i += 1;
+    let end = find_feed(piece, from);
+    let count = count_kept(len, end - from);
+    keep_octets(kept, len, piece, from, count);
+    Kept {
+        len: len + count,
+        end,
     }
-    Kept { len: n, end: i }
 }
 
-// Answers a line, and writes the answer from an index of the buffer on.
-fn end_line(t: Table, line: &[u8], out: &mut [u8], at: usize) -> Ended
-    requires { ⌜ at + 61 ≤ length (now out) ⌝ }
-    ensures { λ r. ⌜ (r ≡ record { table = lineStep t (now (line .entry)) .table; count = length (answerLine (lineStep t (now (line .entry)) .answer)) }) × (now (out .exit) ≡ sets (now (out .entry)) at (answerLine (lineStep t (now (line .entry)) .answer))) × (r .count ≤ 61) ⌝ }
+// Answers a line at the image. Whether it is one of a sound table was found out before, and no line changes that.
+fn answer_at(sound: bool, image: &mut [u8], line: &[u8]) -> Answer
+    requires { ⌜ sound ≡ isRead (now image) ⌝ }
+    ensures { λ r. ⌜ (r ≡ stepOn (now (image .entry)) (now (line .entry)) .answer) × (now (image .exit) ≡ leftOn (now (image .entry)) (now (line .entry))) × (sound ≡ isRead (leftOn (now (image .entry)) (now (line .entry)))) ⌝ }
 {
-    let s = lines::step_line(t, line);
-    let a = s.answer;
-    let table = s.table;
-    let count = lines::write_answer(a, &mut out[at..]);
-    Ended { table, count }
+    if sound {
+        lent::step_line(image, line)
+    } else {
+        answers::only_number(25)
+    }
+}
+
+// Answers a line, and writes the answer from an index of the buffer on. Gives the count of octets written.
+fn end_line(sound: bool, image: &mut [u8], line: &[u8], out: &mut [u8], at: usize) -> usize
+    requires { ⌜ (at + 61 ≤ length (now out)) × (sound ≡ isRead (now image)) ⌝ }
+    ensures { λ r. ⌜ (r ≡ length (answerLine (stepOn (now (image .entry)) (now (line .entry)) .answer))) × (now (out .exit) ≡ sets (now (out .entry)) at (answerLine (stepOn (now (image .entry)) (now (line .entry)) .answer))) × (r ≤ 61) × (now (image .exit) ≡ leftOn (now (image .entry)) (now (line .entry))) × (sound ≡ isRead (leftOn (now (image .entry)) (now (line .entry)))) ⌝ }
+{
+    let a = answer_at(sound, image, line);
+    lines::write_answer(a, &mut out[at..])
 }
 
 // Takes a piece of the stream, and writes the answers to the lines that end in it. Where the buffer has less than 61 octets for each octet
@@ -102,11 +140,12 @@ pub fn feed(s: Session, piece: &[u8], out: &mut [u8]) -> Fed
             written: 0,
         };
     }
-    let mut table = s.table;
+    let mut image = s.image;
     let mut kept = s.kept;
     let mut len = s.len;
     let mut at: usize = 0;
     let mut i: usize = 0;
+    let sound = sound::is_read(&image);
     loop {
         let k = keep_line(&mut kept, len, piece, i);
         let e = k.end;
@@ -114,7 +153,7 @@ pub fn feed(s: Session, piece: &[u8], out: &mut [u8]) -> Fed
             return Fed {
                 enough: true,
                 session: Session {
-                    table,
+                    image,
                     kept,
                     len: k.len,
                 },
@@ -122,10 +161,9 @@ pub fn feed(s: Session, piece: &[u8], out: &mut [u8]) -> Fed
             };
         }
         let n = at_most_63(k.len);
-        let ended = end_line(table, &kept[..n], out, at);
-        table = ended.table;
+        let count = end_line(sound, &mut image, &kept[..n], out, at);
         len = 0;
-        at += ended.count;
+        at += count;
         i = e + 1;
     }
 }
@@ -141,8 +179,8 @@ pub fn finish(s: Session, out: &mut [u8]) -> usize
         return 0;
     }
     let kept = s.kept;
-    let t = s.table;
+    let mut image = s.image;
     let n = at_most_63(s.len);
-    let ended = end_line(t, &kept[..n], out, 0);
-    ended.count
+    let sound = sound::is_read(&image);
+    end_line(sound, &mut image, &kept[..n], out, 0)
 }

@@ -14,11 +14,11 @@ use Rattle.table.specs.declared.Record.{Record}
 use Rattle.table.specs.Places.{stateNumber, placeAt}
 use Rattle.table.specs.Search.{holds}
 use Rattle.table.proofs.Calls.{holds-occupied}
-use Rattle.step.specs.declared.Event.{Event}
-use Rattle.step.specs.declared.Answer.{Answer}
-use Rattle.step.specs.declared.rule.Rule.{Rule}
-use Rattle.step.specs.declared.rule.Rule.the-variants.{Start, On, Unknown}
-use Rattle.step.specs.Rule.{ruleOf}
+use Rattle.events.specs.declared.Event.{Event}
+use Rattle.events.specs.declared.Answer.{Answer}
+use Rattle.events.specs.declared.rule.Rule.{Rule}
+use Rattle.events.specs.declared.rule.Rule.the-variants.{Start, On, Unknown}
+use Rattle.events.specs.Rule.{ruleOf}
 use Rattle.step.proofs.Aims.{free-number}
 use Rattle.stays.specs.Stays.{starts, goes-on, ends, Stay, Every}
 use Rattle.stays.specs.ParkTable.{markBy, machine}

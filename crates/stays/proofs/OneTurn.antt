@@ -24,19 +24,21 @@ use Rattle.table.proofs.Calls.{holds-same, holds-occupied, occupied-holds}
 use Rattle.table.proofs.Searches.{found-passes, none-passes, none-found}
 use Rattle.table.proofs.Facts.{facts-of-test}
 use Rattle.table.proofs.Keep.{put}
-use Rattle.step.specs.declared.Event.{Event}
-use Rattle.step.specs.declared.Answer.{Answer}
+use Rattle.events.specs.declared.Event.{Event}
+use Rattle.events.specs.declared.Answer.{Answer}
 use Rattle.step.specs.declared.Step.{Step}
-use Rattle.step.specs.declared.rule.Rule.{Rule}
-use Rattle.step.specs.declared.rule.Rule.the-variants.{Start, On}
-use Rattle.step.specs.declared.rule.Signal.{Signal}
-use Rattle.step.specs.declared.rule.Signal.the-variants.{LocalPickup, PickRequest, PickupResult, PickupError, ErrorInRelease, Release, Answered, Expiry}
-use Rattle.step.specs.declared.refusal.Refusal.the-variants.{ChoiceOrTimer}
+use Rattle.events.specs.declared.rule.Rule.{Rule}
+use Rattle.events.specs.declared.rule.Rule.the-variants.{Start, On}
+use Rattle.events.specs.declared.rule.Signal.{Signal}
+use Rattle.events.specs.declared.rule.Signal.the-variants.{LocalPickup, PickRequest, PickupResult, PickupError, ErrorInRelease, Release, Answered, Expiry}
+use Rattle.events.specs.declared.refusal.Refusal.the-variants.{ChoiceOrTimer}
 use Rattle.step.specs.declared.aim.Aim.the-variants.{To, Nowhere}
-use Rattle.step.specs.Rule.{ruleOf}
-use Rattle.step.specs.Turn.{turnOn, turn}
-use Rattle.step.specs.Aim.{indexOf, chosen, isTimer, aimNamed, aimNew, aimOn, aim, nextWaiting}
-use Rattle.step.specs.Step.{stayCall, settled, stepOf}
+use Rattle.events.specs.Rule.{ruleOf}
+use Rattle.events.specs.Turn.{turnOn, turn}
+use Rattle.events.specs.Sought.{isTimer}
+use Rattle.step.specs.Aim.{indexOf, chosen, aimNamed, aimNew, aimOn, aim, nextWaiting}
+use Rattle.events.specs.Act.{stayCall}
+use Rattle.step.specs.Step.{settled, stepOf}
 use Rattle.step.specs.Promises.{namesCall, AtOnePlace}
 use Rattle.step.proofs.Stepped.{Reached, Stepped, kept, begun, ended, went-on}
 use Rattle.stays.specs.ParkTable.{byAnswer}

@@ -4,7 +4,7 @@
 use mathlib.Core.Path.{_≡_, refl}
 use mathlib.Core.List.{List, [], _∷_}
 use Rattle.table.specs.declared.Table.{Table}
-use Rattle.step.specs.declared.Event.{Event}
+use Rattle.events.specs.declared.Event.{Event}
 use Rattle.stays.specs.Stays.{run, final, stop, Rearranges, OneResult, SameEvents}
 use Rattle.stays.specs.Refusing.{refusing}
 

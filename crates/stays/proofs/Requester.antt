@@ -16,19 +16,19 @@ use Rattle.table.specs.declared.Side.the-variants.{Position, Line}
 use Rattle.table.specs.declared.Record.{Record}
 use Rattle.table.specs.Places.{stateNumber, waitingOn, sideAt}
 use Rattle.table.specs.Timers.{timerSet}
-use Rattle.step.specs.declared.Event.{Event}
-use Rattle.step.specs.declared.Answer.{Answer}
-use Rattle.step.specs.declared.rule.Rule.the-variants.{On}
-use Rattle.step.specs.declared.rule.Signal.{Signal}
-use Rattle.step.specs.declared.rule.Signal.the-variants.{LocalPickup, PickRequest, PickupResult, PickupError, ErrorInRelease, Release, Answered, Expiry}
-use Rattle.step.specs.declared.message.Message.{Message}
-use Rattle.step.specs.declared.message.Message.the-variants.{Connect, Facility, PickResult, ReleaseComplete}
-use Rattle.step.specs.declared.refusal.Refusal.the-variants.{NotOutstanding, TimerNotRunning}
-use Rattle.step.specs.declared.turn.Stage.{Stage}
-use Rattle.step.specs.declared.turn.Stage.the-variants.{Waits, AskedHere, AskedFrom, Taken}
-use Rattle.step.specs.declared.turn.Outcome.the-variants.{Refused, Freed, Becomes}
-use Rattle.step.specs.Rule.{ruleOf}
-use Rattle.step.specs.Turn.{stageOf, stateAt, connectionAt, up, pickedUp, isOutstanding, failed, failedInRelease, answered, runs, turnOn}
+use Rattle.events.specs.declared.Event.{Event}
+use Rattle.events.specs.declared.Answer.{Answer}
+use Rattle.events.specs.declared.rule.Rule.the-variants.{On}
+use Rattle.events.specs.declared.rule.Signal.{Signal}
+use Rattle.events.specs.declared.rule.Signal.the-variants.{LocalPickup, PickRequest, PickupResult, PickupError, ErrorInRelease, Release, Answered, Expiry}
+use Rattle.events.specs.declared.message.Message.{Message}
+use Rattle.events.specs.declared.message.Message.the-variants.{Connect, Facility, PickResult, ReleaseComplete}
+use Rattle.events.specs.declared.refusal.Refusal.the-variants.{NotOutstanding, TimerNotRunning}
+use Rattle.events.specs.declared.turn.Stage.{Stage}
+use Rattle.events.specs.declared.turn.Stage.the-variants.{Waits, AskedHere, AskedFrom, Taken}
+use Rattle.events.specs.declared.turn.Outcome.the-variants.{Refused, Freed, Becomes}
+use Rattle.events.specs.Rule.{ruleOf}
+use Rattle.events.specs.Turn.{stageOf, stateAt, connectionAt, up, pickedUp, isOutstanding, failed, failedInRelease, answered, runs, turnOn}
 use Rattle.stays.specs.ParkTable.{machine}
 use Rattle.stays.specs.Demand.{Act, LastRequest, asks, stateAfter, TellsRequester, AllTell, TellsItsRequester}
 use Rattle.stays.proofs.Part.{Part, begun, onward, Whole, whole}

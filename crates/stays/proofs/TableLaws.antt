@@ -21,8 +21,8 @@ use Rattle.table.specs.Search.{holds}
 use Rattle.table.specs.Sound.{isSound}
 use Rattle.table.proofs.Calls.{holds-same, holds-occupied}
 use Rattle.table.proofs.Facts.{facts-of-test, empty-sound}
-use Rattle.step.specs.declared.Event.{Event}
-use Rattle.step.specs.declared.Answer.{Answer}
+use Rattle.events.specs.declared.Event.{Event}
+use Rattle.events.specs.declared.Answer.{Answer}
 use Rattle.step.specs.declared.Step.{Step}
 use Rattle.step.specs.Aim.{indexOf}
 use Rattle.step.specs.Step.{stepOf}

@@ -18,19 +18,19 @@ use Rattle.table.specs.declared.Record.{Record}
 use Rattle.table.specs.Places.{stateNumber, sideAt, placeAt, noInvoke, freeRecord}
 use Rattle.table.specs.Search.{holds}
 use Rattle.table.proofs.Calls.{holds-occupied, occupied-holds}
-use Rattle.step.specs.declared.Event.{Event}
-use Rattle.step.specs.declared.Answer.{Answer}
-use Rattle.step.specs.declared.rule.Rule.{Rule}
-use Rattle.step.specs.declared.rule.Rule.the-variants.{Start, On}
-use Rattle.step.specs.declared.rule.Signal.{Signal}
-use Rattle.step.specs.declared.rule.Signal.the-variants.{PickupResult}
-use Rattle.step.specs.declared.message.Message.{Message}
-use Rattle.step.specs.declared.turn.Stage.{Stage}
-use Rattle.step.specs.declared.turn.Stage.the-variants.{Waits, AskedHere, AskedFrom, Taken}
-use Rattle.step.specs.declared.turn.Outcome.the-variants.{Freed, Becomes}
-use Rattle.step.specs.Rule.{ruleOf}
-use Rattle.step.specs.Turn.{stateAt, heldRecord, greeting, stageOf, isOutstanding, resulted, turnOn}
-use Rattle.step.specs.Step.{accepted}
+use Rattle.events.specs.declared.Event.{Event}
+use Rattle.events.specs.declared.Answer.{Answer}
+use Rattle.events.specs.declared.rule.Rule.{Rule}
+use Rattle.events.specs.declared.rule.Rule.the-variants.{Start, On}
+use Rattle.events.specs.declared.rule.Signal.{Signal}
+use Rattle.events.specs.declared.rule.Signal.the-variants.{PickupResult}
+use Rattle.events.specs.declared.message.Message.{Message}
+use Rattle.events.specs.declared.turn.Stage.{Stage}
+use Rattle.events.specs.declared.turn.Stage.the-variants.{Waits, AskedHere, AskedFrom, Taken}
+use Rattle.events.specs.declared.turn.Outcome.the-variants.{Freed, Becomes}
+use Rattle.events.specs.Rule.{ruleOf}
+use Rattle.events.specs.Turn.{stateAt, heldRecord, greeting, stageOf, isOutstanding, resulted, turnOn}
+use Rattle.events.specs.Answers.{accepted}
 use Rattle.step.specs.Promises.{namesCall, Move, starts as from-free, goes-on as still-offered, hands-over, ends as to-free, is-left}
 use Rattle.step.proofs.Aims.{free-number}
 use Rattle.step.proofs.Turns.{stage-occupied, move-on}

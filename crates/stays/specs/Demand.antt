@@ -9,12 +9,12 @@ use Rattle.table.specs.declared.Place.{Place}
 use Rattle.table.specs.declared.Connection.{Connection}
 use Rattle.table.specs.declared.Side.{Side}
 use Rattle.table.specs.Places.{emptyTable, placeAt}
-use Rattle.step.specs.declared.Event.{Event}
-use Rattle.step.specs.declared.Answer.{Answer}
-use Rattle.step.specs.declared.rule.Rule.{Rule}
-use Rattle.step.specs.declared.rule.Rule.the-variants.{Start, On}
-use Rattle.step.specs.declared.rule.Signal.the-variants.{PickRequest, PickupResult}
-use Rattle.step.specs.Rule.{ruleOf}
+use Rattle.events.specs.declared.Event.{Event}
+use Rattle.events.specs.declared.Answer.{Answer}
+use Rattle.events.specs.declared.rule.Rule.{Rule}
+use Rattle.events.specs.declared.rule.Rule.the-variants.{Start, On}
+use Rattle.events.specs.declared.rule.Signal.the-variants.{PickRequest, PickupResult}
+use Rattle.events.specs.Rule.{ruleOf}
 use Rattle.step.specs.Edges.{event}
 use Rattle.stays.specs.Stays.{Done, Stays, Every, none, run, stays, allStays, stayByStay, Rearranges, SameEvents, OneResult}
 use Rattle.stays.specs.ParkTable.{machine}

@@ -4,10 +4,10 @@
 use mathlib.Core.Bool.{false}
 use Rattle.table.specs.declared.Table.{Table}
 use Rattle.table.specs.Places.{emptyTable}
-use Rattle.step.specs.declared.Event.{Event}
-use Rattle.step.specs.declared.Answer.{Answer}
-use Rattle.step.specs.declared.message.Message.the-variants.{NoMessage}
-use Rattle.step.specs.Step.{saying}
+use Rattle.events.specs.declared.Event.{Event}
+use Rattle.events.specs.declared.Answer.{Answer}
+use Rattle.events.specs.declared.message.Message.the-variants.{NoMessage}
+use Rattle.events.specs.Answers.{saying}
 use Rattle.stays.specs.Stays.{Machine, goes-on}
 
 abbrev pub refusing : Machine

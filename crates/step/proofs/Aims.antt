@@ -23,16 +23,17 @@ use Rattle.table.specs.declared.Found.the-variants.{At, Nothing}
 use Rattle.table.specs.Places.{stateNumber, sameState, isFree, sideIndex, sameSide, sideOf, isOf, sideAt, placeAt, waitingOn, recordAt}
 use Rattle.table.specs.Search.{holds, isAt, lowest, findCall, lowestIn}
 use Rattle.table.proofs.Searches.{found-passes, none-found}
-use Rattle.step.specs.declared.Event.{Event}
-use Rattle.step.specs.declared.rule.Signal.{Signal}
-use Rattle.step.specs.declared.rule.Rule.{Rule}
-use Rattle.step.specs.declared.rule.Rule.the-variants.{Start, On, Unknown}
-use Rattle.step.specs.declared.rule.Signal.the-variants.{LocalPickup, PickRequest, PickupResult, PickupError, ErrorInRelease, Release, Answered, Expiry}
-use Rattle.step.specs.declared.refusal.Refusal.{Refusal}
-use Rattle.step.specs.declared.refusal.Refusal.the-variants.{ChoiceOrTimer, CallHeld, SideFull, CallNotHeld, NothingWaits}
+use Rattle.events.specs.declared.Event.{Event}
+use Rattle.events.specs.declared.rule.Signal.{Signal}
+use Rattle.events.specs.declared.rule.Rule.{Rule}
+use Rattle.events.specs.declared.rule.Rule.the-variants.{Start, On, Unknown}
+use Rattle.events.specs.declared.rule.Signal.the-variants.{LocalPickup, PickRequest, PickupResult, PickupError, ErrorInRelease, Release, Answered, Expiry}
+use Rattle.events.specs.declared.refusal.Refusal.{Refusal}
+use Rattle.events.specs.declared.refusal.Refusal.the-variants.{ChoiceOrTimer, CallHeld, SideFull, CallNotHeld, NothingWaits}
 use Rattle.step.specs.declared.aim.Aim.{Aim}
 use Rattle.step.specs.declared.aim.Aim.the-variants.{To, Nowhere}
-use Rattle.step.specs.Aim.{aimAt, indexOf, isProposed, chosen, unlessHeld, aimNew, aimNamed, aimPickup, isTimer, aimExpiry, aimOn, aim, nextWaiting}
+use Rattle.events.specs.Sought.{isTimer}
+use Rattle.step.specs.Aim.{aimAt, indexOf, isProposed, chosen, unlessHeld, aimNew, aimNamed, aimPickup, aimExpiry, aimOn, aim, nextWaiting}
 use Rattle.step.specs.Promises.{namesCall}
 
 -- ---- sides and states by their numbers
@@ -101,7 +102,7 @@ module _ (t : Table) (size : length (t .places) ≡ 96) where
     pub vacant : isFree (recordAt t i .state) ≡ true
     pub absent : findCall t call ≡ Nothing
 
-  chosen-room : (d : Side) (p : Place) (i : ℕ) → chosen t d p ≡ At i → (i < 96) × (sideAt i ≡ d) × (isFree (recordAt t i .state) ≡ true)
+  pub chosen-room : (d : Side) (p : Place) (i : ℕ) → chosen t d p ≡ At i → (i < 96) × (sideAt i ≡ d) × (isFree (recordAt t i .state) ≡ true)
   chosen-room d p i h = by (isProposed t d p) refl h
     where
       by : (b : Bool) → isProposed t d p ≡ b → cond b (At (indexOf (p .0))) (lowestIn t d Free) ≡ At i → (i < 96) × (sideAt i ≡ d) × (isFree (recordAt t i .state) ≡ true)

@@ -26,36 +26,37 @@ use Rattle.table.proofs.Calls.{holds-same, holds-occupied, occupied-holds}
 use Rattle.table.proofs.Searches.{found-passes, none-passes}
 use Rattle.table.proofs.Facts.{facts-of-test, test-of-facts, free-state}
 use Rattle.table.proofs.Keep.{put, put-size, put-here, put-other, put-sound}
-use Rattle.step.specs.declared.Event.{Event}
+use Rattle.events.specs.declared.Event.{Event}
 use Rattle.step.specs.declared.Step.{Step}
-use Rattle.step.specs.declared.rule.Rule.{Rule}
-use Rattle.step.specs.declared.rule.Rule.the-variants.{Start, On, Unknown}
-use Rattle.step.specs.declared.rule.Signal.{Signal}
-use Rattle.step.specs.declared.rule.Signal.the-variants.{LocalPickup, PickRequest, PickupResult, PickupError, ErrorInRelease, Release, Answered, Expiry}
-use Rattle.step.specs.declared.message.Message.{Message}
-use Rattle.step.specs.declared.message.Message.the-variants.{NoMessage, PickResult, PickError}
-use Rattle.step.specs.declared.message.ErrorValue.the-variants.{Undefined}
-use Rattle.step.specs.declared.refusal.Refusal.{Refusal}
-use Rattle.step.specs.declared.refusal.Refusal.the-variants.{UnknownKind, ChoiceOrTimer, CallHeld, SideFull, CallNotHeld, NothingWaits, PickupPending, StateUnfit, NotOutstanding, TimerNotRunning, TableUnsound}
-use Rattle.step.specs.declared.turn.Stage.{Stage}
-use Rattle.step.specs.declared.turn.Stage.the-variants.{Waits, AskedHere, AskedFrom, Taken}
-use Rattle.step.specs.declared.turn.Outcome.{Outcome}
-use Rattle.step.specs.declared.turn.Outcome.the-variants.{Refused, Freed, Becomes}
+use Rattle.events.specs.declared.rule.Rule.{Rule}
+use Rattle.events.specs.declared.rule.Rule.the-variants.{Start, On, Unknown}
+use Rattle.events.specs.declared.rule.Signal.{Signal}
+use Rattle.events.specs.declared.rule.Signal.the-variants.{LocalPickup, PickRequest, PickupResult, PickupError, ErrorInRelease, Release, Answered, Expiry}
+use Rattle.events.specs.declared.message.Message.{Message}
+use Rattle.events.specs.declared.message.Message.the-variants.{NoMessage, PickResult, PickError}
+use Rattle.events.specs.declared.message.ErrorValue.the-variants.{Undefined}
+use Rattle.events.specs.declared.refusal.Refusal.{Refusal}
+use Rattle.events.specs.declared.refusal.Refusal.the-variants.{UnknownKind, ChoiceOrTimer, CallHeld, SideFull, CallNotHeld, NothingWaits, PickupPending, StateUnfit, NotOutstanding, TimerNotRunning, TableUnsound}
+use Rattle.events.specs.declared.turn.Stage.{Stage}
+use Rattle.events.specs.declared.turn.Stage.the-variants.{Waits, AskedHere, AskedFrom, Taken}
+use Rattle.events.specs.declared.turn.Outcome.{Outcome}
+use Rattle.events.specs.declared.turn.Outcome.the-variants.{Refused, Freed, Becomes}
 use Rattle.step.specs.declared.aim.Aim.{Aim}
 use Rattle.step.specs.declared.aim.Aim.the-variants.{To, Nowhere}
-use Rattle.step.specs.Rule.{ruleOf}
-use Rattle.step.specs.Refusal.{refusalNumber}
-use Rattle.step.specs.Turn.{heldRecord, stageOf, greeting, isOutstanding, ifOutstanding, failedInRelease, turnOn, turn}
+use Rattle.events.specs.Rule.{ruleOf}
+use Rattle.events.specs.Refusal.{refusalNumber}
+use Rattle.events.specs.Turn.{heldRecord, stageOf, greeting, isOutstanding, ifOutstanding, failedInRelease, turnOn, turn}
 use Rattle.step.specs.Aim.{aim, aimAt, aimNamed, aimOn, nextWaiting}
-use Rattle.step.specs.Step.{refusedBy, done, stayCall, settled, carriedOut, stepOf}
+use Rattle.events.specs.Act.{stayCall}
+use Rattle.step.specs.Step.{refusedBy, done, settled, carriedOut, stepOf}
 use Rattle.step.specs.Promises.{Full, IsAccepted, KeepsSound, RefusalKeeps, Move, starts, AtOnePlace, AcceptedAtOnePlace, one-if, T3RunsThrough, namesCall, byName, MatchedByCall, NotHeldIs5, StartAnswersItsCall, onlyNamed, IgnoresOtherFields, ReleaseFrees, RemoteResultHolds}
 use Rattle.step.proofs.Aims.{Room, aim-on, aim-lost, free-number}
 use Rattle.step.proofs.Turns.{stage-fits, free-fits, waiting-offered, stage-occupied, stage-connection, move-end, move-on}
 use Rattle.step.proofs.Timers.{t3-started}
-use Rattle.step.proofs.Stepped.{Reached, Stepped, kept, begun, ended, went-on, stepped}
+use Rattle.step.proofs.Stepped.{Reached, Stepped, kept, begun, ended, went-on, refused-stays, stepped}
 
 -- no refusal has the number of an accepted event
-refused-not-0 : (w : Refusal) → refusalNumber w ≡ 0 → ⊥
+pub refused-not-0 : (w : Refusal) → refusalNumber w ≡ 0 → ⊥
 refused-not-0 UnknownKind h = omega arith
 refused-not-0 ChoiceOrTimer h = omega arith
 refused-not-0 CallHeld h = omega arith
@@ -402,7 +403,7 @@ module _ (e : Event) where
   same-kind Unknown = refl
 
   same-settled : (t : Table) (k : Rule) → ruleOf (e .kind) ≡ k → (i : ℕ) (call : List ℕ) (u : Outcome) → settled t (onlyNamed k e) i call u ≡ settled t e i call u
-  same-settled t k q i call (Refused w) = same-refusal t k q w
+  same-settled t k q i call (Refused w) = sym (refused-stays t (onlyNamed k e) i call w) ∙ same-refusal t k q w ∙ refused-stays t e i call w
   same-settled t k q i call (Freed m) = refl
   same-settled t k q i call (Becomes g n m) = refl
 

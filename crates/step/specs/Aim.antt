@@ -1,6 +1,6 @@
 -- Which place an event is for (document 01, "Events" and refusals 1 to 6). Matching is by call, and by nothing else.
 -- Assumes nothing.
-use mathlib.Core.Bool.{Bool, true, false, cond, _&&_, _||_}
+use mathlib.Core.Bool.{Bool, true, false, cond, _&&_}
 use Prim.Native.Nat.{ℕ, zero, suc}
 use lib.Dec.{eqb}
 use Rattle.table.specs.declared.Place.{Place}
@@ -12,13 +12,16 @@ use Rattle.table.specs.declared.Found.{Found}
 use Rattle.table.specs.declared.Found.the-variants.{At, Nothing}
 use Rattle.table.specs.Places.{isFree, isOf, sideOf, waitingOn, recordAt}
 use Rattle.table.specs.Search.{findCall, lowestIn}
-use Rattle.step.specs.declared.Event.{Event}
-use Rattle.step.specs.declared.rule.Rule.{Rule}
-use Rattle.step.specs.declared.rule.Rule.the-variants.{Start, On, Unknown}
-use Rattle.step.specs.declared.rule.Signal.{Signal}
-use Rattle.step.specs.declared.rule.Signal.the-variants.{LocalPickup, PickRequest, PickupResult, PickupError, ErrorInRelease, Release, Answered, Expiry}
-use Rattle.step.specs.declared.refusal.Refusal.{Refusal}
-use Rattle.step.specs.declared.refusal.Refusal.the-variants.{UnknownKind, ChoiceOrTimer, CallHeld, SideFull, CallNotHeld, NothingWaits}
+use Rattle.events.specs.declared.Event.{Event}
+use Rattle.events.specs.declared.rule.Rule.{Rule}
+use Rattle.events.specs.declared.rule.Rule.the-variants.{Start, On, Unknown}
+use Rattle.events.specs.declared.rule.Signal.{Signal}
+use Rattle.events.specs.declared.rule.Signal.the-variants.{LocalPickup, PickRequest, PickupResult, PickupError, ErrorInRelease, Release, Answered, Expiry}
+use Rattle.events.specs.declared.refusal.Refusal.{Refusal}
+use Rattle.events.specs.declared.refusal.Refusal.the-variants.{UnknownKind, ChoiceOrTimer, CallHeld, SideFull, CallNotHeld, NothingWaits}
+use Rattle.events.specs.declared.sought.Sought.{Sought}
+use Rattle.events.specs.declared.sought.Sought.the-variants.{Held, Waiting, Room, Never}
+use Rattle.events.specs.Sought.{isTimer}
 use Rattle.step.specs.declared.aim.Aim.{Aim}
 use Rattle.step.specs.declared.aim.Aim.the-variants.{To, Nowhere}
 
@@ -62,10 +65,7 @@ aimPickup next t e =
     (cond (eqb (e .choice) 2) (aimAt (next Line) NothingWaits)
     (Nowhere ChoiceOrTimer)))
 
--- "timer not 3, 6 or 9" is refused by 2
-abbrev pub isTimer : ℕ → Bool
-isTimer n = eqb n 3 || (eqb n 6 || eqb n 9)
-
+-- kind 10
 abbrev pub aimExpiry : Table → Event → Aim
 aimExpiry t e = cond (isTimer (e .timer)) (aimNamed t e) (Nowhere ChoiceOrTimer)
 
@@ -87,3 +87,10 @@ aim next Unknown t e = Nowhere UnknownKind
 -- the waiting place of a side that is served: the lowest
 abbrev pub nextWaiting : Table → Side → Found
 nextWaiting t a = lowestIn t a (waitingOn a)
+
+-- the same by what the event looks for (`aim-sought`, proofs/Soughts.antt)
+abbrev pub aimFor : (Side → Found) → Table → Event → Sought → Aim
+aimFor next t e Held = aimNamed t e
+aimFor next t e (Waiting a) = aimAt (next a) NothingWaits
+aimFor next t e (Room d) = aimNew d t e
+aimFor next t e (Never w) = Nowhere w

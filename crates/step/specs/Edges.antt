@@ -10,8 +10,8 @@ use Rattle.table.specs.declared.Table.{Table}
 use Rattle.table.specs.declared.State.{State}
 use Rattle.table.specs.declared.State.the-variants.{ParkWaiting, LineWaiting, Requested, RemoteRequested, HandedOver}
 use Rattle.table.specs.Places.{noConnection, noCall, freeRecord, emptyTable}
-use Rattle.step.specs.declared.Event.{Event}
-use Rattle.step.specs.declared.Answer.{Answer}
+use Rattle.events.specs.declared.Event.{Event}
+use Rattle.events.specs.declared.Answer.{Answer}
 use Rattle.step.specs.Aim.{indexOf}
 use Rattle.step.specs.Step.{stepOf}
 

@@ -19,15 +19,15 @@ use Rattle.table.specs.Places.{stateNumber, isFree, placeAt, sideAt, noPlace, n
 use Rattle.table.specs.Timers.{startedSet, stoppedSet}
 use Rattle.table.specs.Search.{holds}
 use Rattle.table.specs.Sound.{isSound}
-use Rattle.step.specs.declared.Event.{Event}
-use Rattle.step.specs.declared.Answer.{Answer}
+use Rattle.events.specs.declared.Event.{Event}
+use Rattle.events.specs.declared.Answer.{Answer}
 use Rattle.step.specs.declared.Step.{Step}
-use Rattle.step.specs.declared.rule.Rule.{Rule}
-use Rattle.step.specs.declared.rule.Rule.the-variants.{Start, On, Unknown}
-use Rattle.step.specs.declared.rule.Signal.{Signal}
-use Rattle.step.specs.declared.rule.Signal.the-variants.{LocalPickup, PickRequest, PickupResult, PickupError, ErrorInRelease, Release, Answered, Expiry}
-use Rattle.step.specs.Rule.{ruleOf}
-use Rattle.step.specs.Aim.{isTimer}
+use Rattle.events.specs.declared.rule.Rule.{Rule}
+use Rattle.events.specs.declared.rule.Rule.the-variants.{Start, On, Unknown}
+use Rattle.events.specs.declared.rule.Signal.{Signal}
+use Rattle.events.specs.declared.rule.Signal.the-variants.{LocalPickup, PickRequest, PickupResult, PickupError, ErrorInRelease, Release, Answered, Expiry}
+use Rattle.events.specs.Rule.{ruleOf}
+use Rattle.events.specs.Sought.{isTimer}
 use Rattle.step.specs.Step.{stepOf}
 
 -- a table has 96 places; of a table in code its type says so

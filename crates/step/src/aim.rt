@@ -1,9 +1,9 @@
 // Which place an event is for. A call is matched by its octets and by nothing else.
 
-use crate::Event;
-use crate::refusal::Refusal;
-use crate::rule::Rule;
-use crate::rule::Signal;
+use events::Event;
+use events::refusal::Refusal;
+use events::sought;
+use events::sought::Sought;
 use table::Found;
 use table::Place;
 use table::Side;
@@ -11,7 +11,8 @@ use table::State;
 use table::Table;
 use table::search;
 ghost use mathlib.Core.Path.{_≡_};
-ghost use Rattle.step.specs.Aim.{aimAt, isProposed, chosen, aimNew, aimNamed, aimPickup, isTimer, aimExpiry, aimOn, aim, nextWaiting};
+ghost use Rattle.events.specs.Rule.{ruleOf};
+ghost use Rattle.step.specs.Aim.{aimAt, isProposed, chosen, aimNew, aimNamed, aim, nextWaiting};
 
 pub enum Aim {
     // An index of the table.
@@ -79,61 +80,14 @@ fn next_waiting(t: Table, a: Side) -> Found
     search::lowest_in(t, a, a.waiting())
 }
 
-fn aim_pickup(t: Table, e: Event) -> Aim
-    ensures { λ r. ⌜ r ≡ aimPickup (nextWaiting t) t e ⌝ }
-{
-    let choice = e.choice;
-    match choice {
-        0 => aim_named(t, e),
-        1 => aim_at(next_waiting(t, Side::Position), Refusal::NothingWaits),
-        2 => aim_at(next_waiting(t, Side::Line), Refusal::NothingWaits),
-        _ => Aim::Nowhere(Refusal::ChoiceOrTimer),
-    }
-}
-
-fn is_timer(n: u8) -> bool
-    ensures { λ r. ⌜ r ≡ isTimer n ⌝ }
-{
-    match n {
-        3 => true,
-        6 => true,
-        9 => true,
-        _ => false,
-    }
-}
-
-fn aim_expiry(t: Table, e: Event) -> Aim
-    ensures { λ r. ⌜ r ≡ aimExpiry t e ⌝ }
-{
-    if is_timer(e.timer) {
-        aim_named(t, e)
-    } else {
-        Aim::Nowhere(Refusal::ChoiceOrTimer)
-    }
-}
-
-fn aim_on(s: Signal, t: Table, e: Event) -> Aim
-    ensures { λ r. ⌜ r ≡ aimOn (nextWaiting t) s t e ⌝ }
-{
-    match s {
-        Signal::LocalPickup => aim_pickup(t, e),
-        Signal::PickRequest => aim_pickup(t, e),
-        Signal::PickupResult => aim_named(t, e),
-        Signal::PickupError => aim_named(t, e),
-        Signal::ErrorInRelease => aim_named(t, e),
-        Signal::Release => aim_named(t, e),
-        Signal::Answered => aim_named(t, e),
-        Signal::Expiry => aim_expiry(t, e),
-    }
-}
-
 // The index that an event is for, or why there is none.
-pub(crate) fn aim_of(k: Rule, t: Table, e: Event) -> Aim
-    ensures { λ r. ⌜ r ≡ aim (nextWaiting t) k t e ⌝ }
+pub(crate) fn aim_of(t: Table, e: Event) -> Aim
+    ensures { λ r. ⌜ r ≡ aim (nextWaiting t) (ruleOf (e .kind)) t e ⌝ }
 {
-    match k {
-        Rule::Start(d) => aim_new(d, t, e),
-        Rule::On(s) => aim_on(s, t, e),
-        Rule::Unknown => Aim::Nowhere(Refusal::UnknownKind),
+    match sought::sought_of(e) {
+        Sought::Held => aim_named(t, e),
+        Sought::Waiting(a) => aim_at(next_waiting(t, a), Refusal::NothingWaits),
+        Sought::Room(d) => aim_new(d, t, e),
+        Sought::Never(w) => Aim::Nowhere(w),
     }
 }

@@ -30,7 +30,7 @@ module _ (t : Table) (size : length (t .places) ≡ 96) (i : ℕ) (inside : i < 
   put-other j ne = getD-set-other (t .places) i j r blank ne
 
   -- what holds of r at i and of each other record at its index holds of each record of the new table
-  each : (P : ℕ → Record → Type 0) → P i r → ((j : ℕ) → j < 96 → P j (recordAt t j)) → (j : ℕ) → j < 96 → P j (recordAt (put t i r) j)
+  pub each : (P : ℕ → Record → Type 0) → P i r → ((j : ℕ) → j < 96 → P j (recordAt t j)) → (j : ℕ) → j < 96 → P j (recordAt (put t i r) j)
   each P p f j h = ⊎-elim (λ e. rw e (rw put-here p)) (λ ne. rw (put-other j ne) (f j h)) (equal-or j i)
 
   -- a record that fits its place, is tidy, and whose call no other place holds

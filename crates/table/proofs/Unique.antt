@@ -14,6 +14,7 @@ use Rattle.table.proofs.Table.empty.Reads as empty
 use Rattle.table.proofs.timers.timer_set.Reads as timer-set
 use Rattle.table.proofs.timers.started.Reads as started
 use Rattle.table.proofs.search.find_call.Reads as find-call
+use Rattle.table.proofs.search.is_at.Reads as is-at
 use Rattle.table.proofs.search.lowest_in.Reads as lowest-in
 use Rattle.table.proofs.sound.is_sound.Reads as is-sound
 use Rattle.table.proofs.status.status_of.Reads as status-of
@@ -31,6 +32,7 @@ pub record Decided : Type 0 where
   pub timer-set-decided : Decides timer-set.Post
   pub started-decided : Decides started.Post
   pub find-call-decided : Decides find-call.Post
+  pub is-at-decided : Decides is-at.Post
   pub lowest-in-decided : Decides lowest-in.Post
   pub is-sound-decided : Decides is-sound.Post
   pub status-of-decided : Decides status-of.Post
@@ -49,6 +51,7 @@ decided = record {
   timer-set-decided = λ κ a x y d e p q. p ∙ sym q;
   started-decided = λ κ a x y d e p q. p ∙ sym q;
   find-call-decided = λ κ a x y d e p q. p ∙ sym q;
+  is-at-decided = λ κ a x y d e p q. p ∙ sym q;
   lowest-in-decided = λ κ a x y d e p q. p ∙ sym q;
   is-sound-decided = λ κ a x y d e p q. p ∙ sym q;
   status-of-decided = λ κ a x y d e p q. p ∙ sym q;

@@ -50,7 +50,7 @@ pub fn find_call(t: Table, call: [u8; 16]) -> Found
 }
 
 // Is the record at this index on the side and in the state?
-pub(crate) fn is_at(a: Side, s: State, i: usize, r: Record) -> bool
+pub fn is_at(a: Side, s: State, i: usize, r: Record) -> bool
     ensures { λ x. ⌜ x ≡ isAt a s i r ⌝ }
 {
     if Side::at(i).same(a) {

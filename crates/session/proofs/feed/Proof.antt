@@ -10,9 +10,9 @@ use lib.ListN.{length, take, drop}
 use lib.Seq.{sets, length-take-le}
 use borrow.Author.Needs.{needs}
 use borrow.Author.Tests.{lt-ltb, le-ltb}
-use Rattle.table.specs.declared.Table.{Table}
 use Rattle.lines.specs.AnswerLine.{answerLine}
-use Rattle.lines.specs.LineStep.{lineStep}
+use Rattle.image.specs.Image.{isRead}
+use Rattle.lent.specs.Lent.{stepOn, leftOn}
 use Rattle.session.specs.declared.Session.{Session}
 use Rattle.session.specs.Session.{endLine, pending, restart}
 use Rattle.session.specs.Keep.{untilFeed}
@@ -21,20 +21,27 @@ use Rattle.session.proofs.Feeds.{Feeding, room-for, feeding-same, feedi
 use Rattle.session.proofs.feed.Statement.{statement}
 use Rattle.session.proofs.feed.Tie as tie
 
-abbrev session : Table → List ℕ → ℕ → Session
-session t k n = record { table = t; kept = k; len = n }
+abbrev session : List ℕ → List ℕ → ℕ → Session
+session o k n = record { image = o; kept = k; len = n }
 
 abbrev Inv-loop : tie.InvT-loop
-Inv-loop piece out₀ table₀ kept₀ len₀ at₀ i₀ out table kept len at i = Feeding piece out₀ (session table₀ kept₀ len₀) (session table kept len) out at i
+Inv-loop piece out₀ image₀ kept₀ len₀ at₀ i₀ sound out image kept len at i =
+    Feeding piece out₀ (session image₀ kept₀ len₀) (session image kept len) out at i × (length image ≡ 2016) × (sound ≡ isRead image)
 
 abbrev μ-loop : tie.MeasureT-loop
-μ-loop piece out₀ table₀ kept₀ len₀ at₀ i₀ out table kept len at i = length piece - i
+μ-loop piece out₀ image₀ kept₀ len₀ at₀ i₀ sound out image kept len at i = length piece - i
 
 returns : tie.Need-returns Inv-loop μ-loop
 returns c = let few = lt-ltb _ _ (c .if1 .taken) in (rw few, rw few)
 
-size : (c : tie.Start Inv-loop μ-loop) → length (c .args .s .kept) ≡ 63
-size c = search needs
+slice-aggregate-is-read : tie.Need-slice-aggregate-is-read Inv-loop μ-loop
+slice-aggregate-is-read c = search needs
+
+is-read-requires : tie.Need-is-read-requires Inv-loop μ-loop
+is-read-requires c κs = search needs
+
+size : (c : tie.Start Inv-loop μ-loop) → (length (c .args .s .kept) ≡ 63) × (length (c .args .s .image) ≡ 2016)
+size c = (search needs, search needs)
 
 -- a slice's length is a number of 64 bits
 fit : (c : tie.After-slice-known Inv-loop μ-loop) → (length (c .before .before .args .out .now) < 2 ^ 64) × (length (c .before .before .args .piece .now) < 2 ^ 64)
@@ -42,11 +49,14 @@ fit c = (omega arith, omega arith)
 
 loop-holds : tie.Need-loop-holds Inv-loop μ-loop
 loop-holds c =
-    let s = c .before .before .before .before .before in
-    feeding-start (s .args .piece .now) (s .args .out .now) (session (s .args .s .table) (s .args .s .kept) (s .args .s .len)) (size s)
+    let s = c .before .before .before .before .before .before .before in (
+      feeding-start (s .args .piece .now) (s .args .out .now) (session (s .args .s .image) (s .args .s .kept) (s .args .s .len)) (size s .0),
+      size s .1,
+      c .is-read .ensures,
+    )
 
 keep-line-requires : tie.Need-keep-line-requires Inv-loop μ-loop
-keep-line-requires c κs = c .before .loop .inv .inside
+keep-line-requires c κs = c .before .loop .inv .0 .inside
 
 -- ---- a line is kept
 
@@ -55,41 +65,41 @@ module _ (c : tie.After-keep-line Inv-loop μ-loop) where
   At = c .before .before
 
   abbrev S : tie.Start Inv-loop μ-loop
-  S = At .before .before .before .before .before .before
+  S = At .before .before .before .before .before .before .before .before
 
   abbrev P : List ℕ
   P = S .args .piece .now
 
   abbrev was : Session
-  was = session (At .loop .table) (At .loop .kept) (At .loop .len)
+  was = session (At .loop .image) (At .loop .kept) (At .loop .len)
 
   there : c .keep-line .result .end ≡ At .loop .i + untilFeed (drop (At .loop .i) P)
   there = ap (λ r. r .end) (c .keep-line .ensures .0)
 
-  keeps : session (At .loop .table) (c .keep-line .last .0) (c .keep-line .result .len) ≡ keptBy was (drop (At .loop .i) P)
-  keeps = λ j. record { table = At .loop .table; kept = (c .keep-line .ensures .1) j; len = c .keep-line .ensures .0 j .len }
+  keeps : session (At .loop .image) (c .keep-line .last .0) (c .keep-line .result .len) ≡ keptBy was (drop (At .loop .i) P)
+  keeps = λ j. record { image = At .loop .image; kept = (c .keep-line .ensures .1) j; len = c .keep-line .ensures .0 j .len }
 
   long : length (c .keep-line .last .0) ≡ 63
-  long = ap length (c .keep-line .ensures .1) ∙ kept-size (At .loop .kept) (At .loop .len) (drop (At .loop .i) P) ∙ At .loop .inv .size
+  long = ap length (c .keep-line .ensures .1) ∙ kept-size (At .loop .kept) (At .loop .len) (drop (At .loop .i) P) ∙ At .loop .inv .0 .size
 
   lengths : (length (At .loop .out) < 2 ^ 64) × (length P < 2 ^ 64)
-  lengths = let f = fit (At .before .before .before .before) in (omega (arith, f .0, At .loop .inv .same), f .1)
+  lengths = let f = fit (At .before .before .before .before .before .before) in (omega (arith, f .0, At .loop .inv .0 .same), f .1)
 
   -- there is room for the answer of a line that has a feed
   room : c .keep-line .result .end < length P → At .loop .at + 61 ≤ length (At .loop .out)
   room h =
-      let all : 61 * length P ≤ length (S .args .out .now) = room-for (length (S .args .out .now)) (length P) (At .before .before .before .if1 .left) in
-      omega (arith, there, At .loop .inv .room, At .loop .inv .same)
+      let all : 61 * length P ≤ length (S .args .out .now) = room-for (length (S .args .out .now)) (length P) (At .before .before .before .before .before .if1 .left) in
+      omega (arith, there, At .loop .inv .0 .room, At .loop .inv .0 .same)
 
 same-length : tie.Need-same-length Inv-loop μ-loop
-same-length c = At (c .before) .loop .inv .same
+same-length c = At (c .before) .loop .inv .0 .same
 
 returns-2 : tie.Need-returns-2 Inv-loop μ-loop
 returns-2 c =
     let k = c .before in
     let s = S k .args in
-    let enough = le-ltb _ _ (At k .before .before .before .if1 .left) in
-    let end = feeding-end (P k) (s .out .now) (s .s) (At k .loop .inv) (k .keep-line .result .end) (there k) (c .if2 .taken) in (
+    let enough = le-ltb _ _ (At k .before .before .before .before .before .if1 .left) in
+    let end = feeding-end (P k) (s .out .now) (s .s) (At k .loop .inv .0) (k .keep-line .result .end) (there k) (c .if2 .taken) in (
       rw enough (λ j. record { enough = true; session = (keeps k ∙ end .0) j; written = end .1 j }),
       rw enough (end .2),
     )
@@ -102,62 +112,71 @@ at-most-63-requires c κs = search needs
 few : (c : tie.After-at-most-63 Inv-loop μ-loop) → c .at-most-63 .result ≤ length (c .before .before .keep-line .last .0)
 few c = rw (c .at-most-63 .ensures, long (c .before .before)) (at-most-le (c .before .before .keep-line .result .len))
 
-array-share-prefix-kept : tie.Need-array-share-prefix-kept Inv-loop μ-loop
-array-share-prefix-kept c = few c
-
 slice-aggregate-end-line : tie.Need-slice-aggregate-end-line Inv-loop μ-loop
-slice-aggregate-end-line c = sym (length-take-le (c .before .at-most-63 .result) (c .before .before .before .keep-line .last .0) (few (c .before)))
+slice-aggregate-end-line c = sym (At (c .before .before .before) .loop .inv .1)
+
+array-share-prefix-kept : tie.Need-array-share-prefix-kept Inv-loop μ-loop
+array-share-prefix-kept c = few (c .before)
+
+slice-aggregate-end-line-2 : tie.Need-slice-aggregate-end-line-2 Inv-loop μ-loop
+slice-aggregate-end-line-2 c =
+    let k = c .before .before in
+    sym (length-take-le (k .at-most-63 .result) (k .before .before .keep-line .last .0) (few k))
 
 end-line-requires : tie.Need-end-line-requires Inv-loop μ-loop
-end-line-requires c κs = room (c .before .before .before .before) (c .before .before .before .if2 .left)
+end-line-requires c κs =
+    let i = c .before .before .before .before in
+    (room (i .before) (i .if2 .left), At (i .before) .loop .inv .2)
 
 -- ---- the line has ended
 
 module _ (c : tie.After-end-line Inv-loop μ-loop) where
   abbrev K : tie.After-keep-line Inv-loop μ-loop
-  K = c .before .before .before .before .before
+  K = c .before .before .before .before .before .before
 
   abbrev E : ℕ
   E = K .keep-line .result .end
 
   inside : E < length (P K)
-  inside = c .before .before .before .before .if2 .left
+  inside = c .before .before .before .before .before .if2 .left
 
   -- the line that is answered is what the session has kept
-  line : take (c .before .before .before .at-most-63 .result) (K .keep-line .last .0) ≡ pending (keptBy (was K) (drop (At K .loop .i) (P K)))
+  line : take (c .before .before .before .before .at-most-63 .result) (K .keep-line .last .0) ≡ pending (keptBy (was K) (drop (At K .loop .i) (P K)))
   line =
-      ap (λ n. take n (K .keep-line .last .0)) (c .before .before .before .at-most-63 .ensures)
+      ap (λ n. take n (K .keep-line .last .0)) (c .before .before .before .before .at-most-63 .ensures)
       ∙ take-at-most (K .keep-line .result .len) (K .keep-line .last .0) (long K)
       ∙ ap pending (keeps K)
 
-  ends : lineStep (At K .loop .table) (take (c .before .before .before .at-most-63 .result) (K .keep-line .last .0)) ≡ endLine (keptBy (was K) (drop (At K .loop .i) (P K)))
-  ends = ap (lineStep (At K .loop .table)) line
+  ends : stepOn (At K .loop .image) (take (c .before .before .before .before .at-most-63 .result) (K .keep-line .last .0)) ≡ endLine (keptBy (was K) (drop (At K .loop .i) (P K)))
+  ends = ap (stepOn (At K .loop .image)) line
 
-  table : session (c .end-line .result .table) (K .keep-line .last .0) 0 ≡ restart (keptBy (was K) (drop (At K .loop .i) (P K)))
-  table = λ j. record { table = (ap (λ r. r .table) (c .end-line .ensures .0) ∙ ap (λ r. r .table) ends) j; kept = K .keep-line .ensures .1 j; len = 0 }
+  image : session (c .end-line .last .1 .0) (K .keep-line .last .0) 0 ≡ restart (keptBy (was K) (drop (At K .loop .i) (P K)))
+  image = λ j. record { image = (c .end-line .ensures .3 ∙ ap (leftOn (At K .loop .image)) line) j; kept = K .keep-line .ensures .1 j; len = 0 }
 
-  count : c .end-line .result .count ≡ length (answerLine (endLine (keptBy (was K) (drop (At K .loop .i) (P K))) .answer))
-  count = ap (λ r. r .count) (c .end-line .ensures .0) ∙ ap (λ r. length (answerLine (r .answer))) ends
+  count : c .end-line .result ≡ length (answerLine (endLine (keptBy (was K) (drop (At K .loop .i) (P K))) .answer))
+  count = c .end-line .ensures .0 ∙ ap (λ r. length (answerLine (r .answer))) ends
 
-  out : c .end-line .last .1 .1 .0 ≡ sets (At K .loop .out) (At K .loop .at) (answerLine (endLine (keptBy (was K) (drop (At K .loop .i) (P K))) .answer))
+  out : c .end-line .last .1 .1 .1 .0 ≡ sets (At K .loop .out) (At K .loop .at) (answerLine (endLine (keptBy (was K) (drop (At K .loop .i) (P K))) .answer))
   out = c .end-line .ensures .1 ∙ ap (λ r. sets (At K .loop .out) (At K .loop .at) (answerLine (r .answer))) ends
 
-  again : Feeding (P K) (S K .args .out .now) (S K .args .s) (session (c .end-line .result .table) (K .keep-line .last .0) 0) (c .end-line .last .1 .1 .0) (At K .loop .at + c .end-line .result .count) (E + 1)
+  again : Feeding (P K) (S K .args .out .now) (S K .args .s) (session (c .end-line .last .1 .0) (K .keep-line .last .0) 0) (c .end-line .last .1 .1 .1 .0) (At K .loop .at + c .end-line .result) (E + 1)
   again =
-      feeding-same table out
-      (feeding-on (P K) (S K .args .out .now) (S K .args .s) (At K .loop .inv) E (there K) inside (c .end-line .result .count) count (c .end-line .ensures .2))
+      feeding-same image out
+      (feeding-on (P K) (S K .args .out .now) (S K .args .s) (At K .loop .inv .0) E (there K) inside (c .end-line .result) count (c .end-line .ensures .2))
 
 add-at : tie.Need-add-at Inv-loop μ-loop
-add-at c = let e = c .before .before .before .before in omega (arith, room (K e) (inside e), e .end-line .ensures .2, lengths (K e) .0)
+add-at c = let e = c .before .before .before in omega (arith, room (K e) (inside e), e .end-line .ensures .2, lengths (K e) .0)
 
 add-i : tie.Need-add-i Inv-loop μ-loop
-add-i c = let e = c .before .before .before .before in omega (arith, inside e, lengths (K e) .1)
+add-i c = let e = c .before .before .before in omega (arith, inside e, lengths (K e) .1)
 
 loop-less : tie.Need-loop-less Inv-loop μ-loop
-loop-less c = let e = c .before .before .before .before in omega (arith, inside e, there (K e))
+loop-less c = let e = c .before .before .before in omega (arith, inside e, there (K e))
 
 loop-again : tie.Need-loop-again Inv-loop μ-loop
-loop-again c = again (c .before .before .before .before)
+loop-again c =
+    let e = c .before .before .before in
+    (again e, search needs, e .end-line .ensures .4 ∙ ap isRead (sym (e .end-line .ensures .3)))
 
 pub feed-spec : {M : Type 1} → statement M
 feed-spec =
@@ -166,13 +185,16 @@ feed-spec =
     Inv-loop
     μ-loop
     returns
+    slice-aggregate-is-read
+    is-read-requires
     loop-holds
     keep-line-requires
     same-length
     returns-2
     at-most-63-requires
-    array-share-prefix-kept
     slice-aggregate-end-line
+    array-share-prefix-kept
+    slice-aggregate-end-line-2
     end-line-requires
     add-at
     add-i

@@ -1,10 +1,12 @@
+-- A line that has come in part is answered as it stands.
+-- Assumes nothing.
 use mathlib.Core.Path.{_≡_, sym, ap, _∙_}
 use Prim.Native.Nat.{_≤_}
 use lib.ListN.{length, take}
 use lib.Seq.{length-take-le}
-use borrow.Author.Needs.{needs}
 use borrow.Author.Tests.{lt-ltb, le-ltb, eq-eqb, ne-eqb}
 use Rattle.session.proofs.KeepLaws.{at-most-le, take-at-most}
+use borrow.Author.Needs.{needs}
 use Rattle.session.proofs.finish.Statement.{statement}
 use Rattle.session.proofs.finish.Tie as tie
 
@@ -19,38 +21,50 @@ returns-2 c =
 at-most-63-requires : tie.Need-at-most-63-requires
 at-most-63-requires c κs = search needs
 
+slice-aggregate-is-read : tie.Need-slice-aggregate-is-read
+slice-aggregate-is-read c = search needs
+
+is-read-requires : tie.Need-is-read-requires
+is-read-requires c κs = search needs
+
+slice-aggregate-end-line : tie.Need-slice-aggregate-end-line
+slice-aggregate-end-line c = search needs
+
+abbrev first : tie.After-at-most-63 → tie.Start
+first c = c .before .before .before .before .before .before .before
+
 -- at most 63 octets of the buffer
 few : (c : tie.After-at-most-63) → c .at-most-63 .result ≤ 63
-few c = rw (c .at-most-63 .ensures) (at-most-le (c .before .before .before .before .before .before .before .args .s .len))
+few c = rw (c .at-most-63 .ensures) (at-most-le (first c .args .s .len))
 
 size : (c : tie.Start) → length (c .args .s .kept) ≡ 63
 size c = search needs
 
 array-share-prefix-kept : tie.Need-array-share-prefix-kept
-array-share-prefix-kept c = rw (size (c .before .before .before .before .before .before .before)) (few c)
+array-share-prefix-kept c = let k = c .before .before .before in rw (size (first k)) (few k)
 
-slice-aggregate-end-line : tie.Need-slice-aggregate-end-line
-slice-aggregate-end-line c =
-    let s = c .before .before .before .before .before .before .before .before in
-    sym (length-take-le (c .before .at-most-63 .result) (s .args .s .kept) (rw (size s) (few (c .before))))
+slice-aggregate-end-line-2 : tie.Need-slice-aggregate-end-line-2
+slice-aggregate-end-line-2 c =
+    let k = c .before .before .before .before in
+    sym (length-take-le (k .at-most-63 .result) (first k .args .s .kept) (rw (size (first k)) (few k)))
 
 end-line-requires : tie.Need-end-line-requires
-end-line-requires c κs = search needs
+end-line-requires c κs = (search needs, c .before .before .before .is-read .ensures)
 
 same-length : tie.Need-same-length
 same-length c = search needs
 
 returns-3 : tie.Need-returns-3
 returns-3 c =
-    let k = c .before .before .before .before .before in
+    let e = c .before .before .before .end-line .ensures in
+    let k = c .before .before .before .before .before .before .before .before .before in
     let b = k .before .before .before in
-    let s = b .before .before .before .before .args .s in
+    let s = first k .args .s in
     let line : take (k .at-most-63 .result) (s .kept) ≡ take (s .len) (s .kept) =
-    ap (λ n. take n (s .kept)) (k .at-most-63 .ensures) ∙ take-at-most (s .len) (s .kept) (size (b .before .before .before .before)) in
+    ap (λ n. take n (s .kept)) (k .at-most-63 .ensures) ∙ take-at-most (s .len) (s .kept) (size (first k)) in
     let long = le-ltb _ _ (b .before .before .if1 .left) in
-    let some = ne-eqb _ _ (b .if2 .left) in
-    let e = c .before .before .end-line .ensures in (
-      rw (long, some, ← line) (ap (λ r. r .count) (e .0)),
+    let some = ne-eqb _ _ (b .if2 .left) in (
+      rw (long, some, ← line) (e .0),
       rw (long, some, ← line) (e .1),
     )
 
@@ -61,8 +75,11 @@ finish-spec =
     returns
     returns-2
     at-most-63-requires
-    array-share-prefix-kept
+    slice-aggregate-is-read
+    is-read-requires
     slice-aggregate-end-line
+    array-share-prefix-kept
+    slice-aggregate-end-line-2
     end-line-requires
     same-length
     returns-3)

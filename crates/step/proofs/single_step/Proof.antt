@@ -3,6 +3,7 @@
 use mathlib.Core.Path.{_≡_, sym, _∙_}
 use lib.ListN.{length}
 use Rattle.laws.proofs.Runs.{length-mapped}
+use Rattle.events.specs.Rule.{ruleOf}
 use Rattle.step.proofs.Aims.{aim-inside}
 use borrow.Author.Needs.{needs}
 use Rattle.step.proofs.single_step.Statement.{statement}
@@ -10,9 +11,6 @@ use Rattle.step.proofs.single_step.Tie as tie
 
 is-sound-requires : tie.Need-is-sound-requires
 is-sound-requires c κs = search needs
-
-rule-of-requires : tie.Need-rule-of-requires
-rule-of-requires c κs = search needs
 
 aim-of-requires : tie.Need-aim-of-requires
 aim-of-requires c κs = search needs
@@ -23,10 +21,10 @@ enum-known-i c = search needs
 carry-out-requires : tie.Need-carry-out-requires
 carry-out-requires c κs =
     let k = c .before .before .before in
-    let s = k .before .before .before .before in
+    let s = k .before .before .before in
     let size : length (s .args .t .places) ≡ 96 = search length-mapped in
     let at = sym (k .aim-of .ensures) ∙ c .before .i .given .1 in
-    aim-inside (s .args .t) size (k .before .rule-of .result) (s .args .e) (c .before .i .given .0 .0) at
+    aim-inside (s .args .t) size (ruleOf (s .args .e .kind)) (s .args .e) (c .before .i .given .0 .0) at
 
 enum-known-w : tie.Need-enum-known-w
 enum-known-w c = search needs
@@ -40,16 +38,16 @@ refuse-requires-2 c κs = search needs
 returns : tie.Need-returns
 returns c =
     let k = c .before .before .before .before in
-    let yes = sym (k .before .before .before .is-sound .ensures) ∙ k .before .before .if1 .taken in
+    let yes = sym (k .before .before .is-sound .ensures) ∙ k .before .if1 .taken in
     let at = sym (k .aim-of .ensures) ∙ c .before .before .i .given .1 in
-    rw (yes, ← k .before .rule-of .ensures, at) (c .carry-out .ensures)
+    rw (yes, at) (c .carry-out .ensures)
 
 returns-2 : tie.Need-returns-2
 returns-2 c =
     let k = c .before .before .before .before in
-    let yes = sym (k .before .before .before .is-sound .ensures) ∙ k .before .before .if1 .taken in
+    let yes = sym (k .before .before .is-sound .ensures) ∙ k .before .if1 .taken in
     let at = sym (k .aim-of .ensures) ∙ c .before .before .w .given .1 in
-    rw (yes, ← k .before .rule-of .ensures, at) (c .refuse .ensures)
+    rw (yes, at) (c .refuse .ensures)
 
 returns-3 : tie.Need-returns-3
 returns-3 c = rw (sym (c .before .before .is-sound .ensures) ∙ c .before .if1 .left) (c .refuse2 .ensures)
@@ -59,7 +57,6 @@ single-step-spec =
     tie.close
     (tie.spec
     is-sound-requires
-    rule-of-requires
     aim-of-requires
     enum-known-i
     carry-out-requires

@@ -1,0 +1,7 @@
+pub mod Rule
+pub mod Message
+pub mod Refusal
+pub mod Turn
+pub mod Sought
+pub mod Answers
+pub mod Act

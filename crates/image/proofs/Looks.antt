@@ -1,0 +1,55 @@
+-- Looking through the places of an image, one after the other.
+-- Assumes nothing.
+use mathlib.Core.Path.{_≡_, refl, sym, ap, _∙_}
+use mathlib.Core.Bool.{Bool, true, false, cond, not}
+use mathlib.Core.List.{List}
+use Prim.Native.Nat.{ℕ, zero, suc, _+_, _-_, _*_, _<_, _≤_}
+use native.Mathlib.Omega.{arith}
+use lib.Dec.{eqb}
+use lib.ListN.{length, getD, take, drop}
+use lib.Seq.{take-all}
+use borrow.Author.Tests.{eq-eqb, ne-eqb, lt-ltb}
+use Rattle.table.specs.declared.Side.{Side}
+use Rattle.table.specs.declared.State.{State}
+use Rattle.table.specs.declared.Record.{Record}
+use Rattle.table.specs.declared.Found.the-variants.{At, Nothing}
+use Rattle.table.specs.Places.{recordAt}
+use Rattle.table.specs.Search.{sameCall, holds, lowest, findCall, lowestIn}
+use Rattle.image.specs.Image.{stateOf, recordFrom, recordsFrom, tableFrom, placeRead, foundIn, lowestFound}
+use Rattle.image.proofs.Apart.{record-at}
+use Rattle.image.proofs.Fills.{records-step}
+use Rattle.image.proofs.PlaceLaws.{free-octet}
+
+pub place-read : (s : List ℕ) (i : ℕ) → length s ≡ 2016 → i < 96 → placeRead i s ≡ recordAt (tableFrom s) i
+place-read s i size h = rw (eq-eqb (length s) 2016 size, lt-ltb i 96 h) (sym (record-at s i h))
+
+-- place i passes the test, or the places after it decide
+pub lowest-place : (p : ℕ → Record → Bool) (s : List ℕ) (i : ℕ) → i < 96
+    → lowest p i (recordsFrom s (i * 21) (96 - i)) ≡ cond (p i (recordFrom s (i * 21))) (At i) (lowest p (i + 1) (recordsFrom s ((i + 1) * 21) (96 - (i + 1))))
+lowest-place p s i h =
+    let next : i * 21 + 21 ≡ (i + 1) * 21 = omega arith in
+    rw (records-step s (i * 21) (96 - i) (96 - (i + 1)) (omega arith), next)
+
+-- after the last place there is none
+pub lowest-past : (p : ℕ → Record → Bool) (s : List ℕ) (i : ℕ) → 96 ≤ i → lowest p i (recordsFrom s (i * 21) (96 - i)) ≡ Nothing
+unfolding recordsFrom
+lowest-past p s i h = let none : 96 - i ≡ 0 = omega arith in rw none
+
+pub holds-free : (s : List ℕ) (i : ℕ) (call : List ℕ) → getD s (i * 21) 0 ≡ 0 → holds call (recordFrom s (i * 21)) ≡ false
+holds-free s i call h = rw (free-octet s (i * 21), eq-eqb (getD s (i * 21) 0) 0 h)
+
+pub holds-busy : (s : List ℕ) (i : ℕ) (call : List ℕ) → (getD s (i * 21) 0 ≡ 0 → ⊥) → holds call (recordFrom s (i * 21)) ≡ sameCall (take 16 (drop (i * 21 + 1) s)) call
+unfolding recordFrom
+holds-busy s i call h = rw (free-octet s (i * 21), ne-eqb (getD s (i * 21) 0) 0 h)
+
+-- an image of the right length
+module _ (s : List ℕ) (size : length s ≡ 2016) where
+  pub found-in : (call : List ℕ) → foundIn s call ≡ findCall (tableFrom s) call
+  found-in call = rw (eq-eqb (length s) 2016 size)
+
+  pub lowest-found : (a : Side) (u : State) → lowestFound s a u ≡ lowestIn (tableFrom s) a u
+  lowest-found a u = rw (eq-eqb (length s) 2016 size)
+
+-- a call is all of its sixteen octets
+pub whole-call : (call : List ℕ) → length call ≡ 16 → take 16 (drop 0 call) ≡ call
+whole-call call h = take-all 16 call (omega arith)

@@ -1,0 +1,76 @@
+// Looking through the places of an image.
+
+use crate::octets;
+use crate::words;
+use table::Found;
+use table::Side;
+use table::State;
+use table::Table;
+use table::search;
+ghost use mathlib.Core.Path.{_≡_};
+ghost use Prim.Native.Nat.{_*_, _<_};
+ghost use lib.ListN.{length};
+ghost use Rattle.table.specs.Search.{holds, findCall, lowestIn};
+ghost use Rattle.image.specs.Image.{recordFrom, tableFrom, foundIn, lowestFound};
+
+fn holds_call(image: &[u8], i: usize, call: &[u8]) -> bool
+    requires { ⌜ (i < 96) × (length (now image) ≡ 2016) × (length (now call) ≡ 16) ⌝ }
+    ensures { λ r. ⌜ r ≡ holds (now (call .entry)) (recordFrom (now (image .entry)) (i * 21)) ⌝ }
+{
+    let at = i * 21;
+    if image[at] == 0 {
+        return false;
+    }
+    words::same_call(image, at + 1, call, 0)
+}
+
+fn call_among(image: &[u8], call: &[u8]) -> Found
+    requires { ⌜ (length (now image) ≡ 2016) × (length (now call) ≡ 16) ⌝ }
+    ensures { λ r. ⌜ r ≡ findCall (tableFrom (now (image .entry))) (now (call .entry)) ⌝ }
+{
+    let mut i: usize = 0;
+    while i < Table::PLACES {
+        if holds_call(image, i, call) {
+            return Found::At(i);
+        }
+        i += 1;
+    }
+    Found::Nothing
+}
+
+// The index of the place that holds a call; nothing in what is not as long as an image.
+pub fn find_call(image: &[u8], call: [u8; 16]) -> Found
+    ensures { λ r. ⌜ r ≡ foundIn (now (image .entry)) call ⌝ }
+{
+    if image.len() == 2016 {
+        call_among(image, &call)
+    } else {
+        Found::Nothing
+    }
+}
+
+fn lowest_among(image: &[u8], a: Side, s: State) -> Found
+    requires { ⌜ length (now image) ≡ 2016 ⌝ }
+    ensures { λ r. ⌜ r ≡ lowestIn (tableFrom (now (image .entry))) a s ⌝ }
+{
+    let mut i: usize = 0;
+    while i < Table::PLACES {
+        let r = octets::read_record(image, i * 21);
+        if search::is_at(a, s, i, r) {
+            return Found::At(i);
+        }
+        i += 1;
+    }
+    Found::Nothing
+}
+
+// The lowest index of a side in a state; nothing in what is not as long as an image.
+pub fn lowest_in(image: &[u8], a: Side, s: State) -> Found
+    ensures { λ r. ⌜ r ≡ lowestFound (now (image .entry)) a s ⌝ }
+{
+    if image.len() == 2016 {
+        lowest_among(image, a, s)
+    } else {
+        Found::Nothing
+    }
+}

@@ -1,0 +1,5 @@
+pub mod LineSteps
+pub mod Kept
+pub mod Short
+pub mod Tables
+pub mod Unique

@@ -1,0 +1,125 @@
+-- The image of a sound table, line after line: it is read as that table, and what a line leaves is the image of a sound table again. So an
+-- image that was read once need not be looked through before the next line.
+-- Assumes nothing.
+use mathlib.Core.Path.{_≡_, refl, sym, ap, _∙_}
+use mathlib.Core.Bool.{Bool, true, false, cond}
+use mathlib.Core.List.{List, _++_}
+use Prim.Native.Nat.{ℕ, zero, suc, _+_, _*_, _<_}
+use native.Mathlib.Omega.{arith}
+use lib.Dec.{eqb}
+use lib.ListN.{length, getD, replicate, length-replicate, getD-replicate, replicate-append-replicate}
+use borrow.Author.Tests.{eqb-true, eqb-false}
+use Rattle.table.specs.declared.Table.{Table}
+use Rattle.table.specs.Places.{freeRecord, emptyTable, blank, recordAt}
+use Rattle.table.specs.Sound.{isSound}
+use Rattle.table.proofs.Facts.{empty-sound}
+use Rattle.table.proofs.Keep.{put-size, each}
+use Rattle.events.specs.declared.Event.{Event}
+use Rattle.events.specs.declared.message.Message.the-variants.{NoMessage}
+use Rattle.events.specs.declared.refusal.Refusal.the-variants.{TableUnsound}
+use Rattle.events.specs.Rule.{ruleOf}
+use Rattle.events.specs.Answers.{saying}
+use Rattle.events.specs.Act.{acted}
+use Rattle.step.specs.declared.Step.{Step}
+use Rattle.step.specs.declared.aim.Aim.{Aim}
+use Rattle.step.specs.declared.aim.Aim.the-variants.{To, Nowhere}
+use Rattle.step.specs.Aim.{aim, nextWaiting}
+use Rattle.step.specs.Step.{refusedBy, carriedOut, stepAny, stepOf}
+use Rattle.step.proofs.Aims.{aim-inside}
+use Rattle.step.proofs.Promises.{keeps-sound, refusal-keeps}
+use Rattle.lines.specs.declared.ReadEvent.{ReadEvent}
+use Rattle.lines.specs.EventLine.{readLine}
+use Rattle.lent.specs.LineStep.{stepRead, lineStep}
+use Rattle.lines.proofs.ReadCalls.{read-long}
+use Rattle.image.specs.declared.ReadImage.{ReadImage}
+use Rattle.image.specs.Image.{octetsOf, octetsOfAll, imageOf, tableFrom, isRead, readImage}
+use Rattle.image.proofs.Round.{Fit, fit-from, image-reads-back, image-written-back}
+use Rattle.lent.specs.Lent.{stepOn, stepAt, leftOn}
+use Rattle.lent.proofs.Kept.{acted-long, image-long, image-sound}
+
+-- a table as the types say, and sound
+pub record Good (t : Table) : Type 0 where
+  pub fit : Fit t
+  pub sound : isSound t ≡ true
+
+-- ---- after an event
+
+module _ (t : Table) (g : Good t) (e : Event) (given : length (e .call) ≡ 16) where
+  fit-at : (a : Aim) → aim (nextWaiting t) (ruleOf (e .kind)) t e ≡ a → Fit (carriedOut (ruleOf (e .kind)) t e a .table)
+  fit-at (Nowhere w) q = g .fit
+  fit-at (To i) q =
+      let inside : i < 96 = aim-inside t (g .fit .size) (ruleOf (e .kind)) e i q in
+      let new = acted e i (recordAt t i) .after in
+      record {
+        size = put-size t (g .fit .size) i inside new;
+        calls = each t (g .fit .size) i inside new (λ j r. length (r .call) ≡ 16) (acted-long e i (recordAt t i) given (g .fit .calls i inside)) (g .fit .calls);
+      }
+
+  event-good : Good (stepOf t e .table)
+  event-good = record { fit = rw (g .sound) (fit-at (aim (nextWaiting t) (ruleOf (e .kind)) t e) refl); sound = keeps-sound t e (g .fit .size) (g .sound) }
+
+-- ---- after a line
+
+module _ (t : Table) (g : Good t) (line : List ℕ) where
+  pub line-good : Good (lineStep t line .table)
+  line-good = by (readLine line) (eqb (readLine line .number) 0) (read-long line)
+    where
+      by : (r : ReadEvent) (b : Bool) → length (r .event .call) ≡ 16
+          → Good (cond b (stepOf t (r .event)) (record { table = t; answer = saying (r .number) NoMessage }) .table)
+      by r true l = event-good t g (r .event) l
+      by r false l = g
+
+  -- a refused line keeps the table
+  refused-line : (eqb (lineStep t line .answer .number) 0 ≡ false) → lineStep t line .table ≡ t
+  refused-line = by (readLine line) (eqb (readLine line .number) 0)
+    where
+      by : (r : ReadEvent) (b : Bool) → eqb (cond b (stepOf t (r .event)) (record { table = t; answer = saying (r .number) NoMessage }) .answer .number) 0 ≡ false
+          → cond b (stepOf t (r .event)) (record { table = t; answer = saying (r .number) NoMessage }) .table ≡ t
+      by r true q = refusal-keeps t (r .event) (g .fit .size) (eqb-false _ 0 q)
+      by r false q = refl
+
+  -- THE LINE AT THE IMAGE OF THE TABLE
+  pub on-image : stepOn (imageOf t) line ≡ lineStep t line
+  on-image = ap (λ r. stepAt r line) (image-reads-back t (g .fit) (g .sound))
+
+  pub left-image : leftOn (imageOf t) line ≡ imageOf (lineStep t line .table)
+  left-image = rw on-image (by (eqb (lineStep t line .answer .number) 0) refl)
+    where
+      by : (b : Bool) → eqb (lineStep t line .answer .number) 0 ≡ b → cond b (imageOf (lineStep t line .table)) (imageOf t) ≡ imageOf (lineStep t line .table)
+      by true q = refl
+      by false q = ap imageOf (sym (refused-line q))
+
+-- the image of a good table is read
+pub image-good : (t : Table) → Good t → isRead (imageOf t) ≡ true
+image-good t g = by (isRead (imageOf t)) (ap (λ r. r .number) (image-reads-back t (g .fit) (g .sound)))
+  where
+    by : (b : Bool) → cond {A = ReadImage} b (record { number = 0; table = tableFrom (imageOf t) }) (record { number = 25; table = emptyTable }) .number ≡ 0 → b ≡ true
+    by true q = refl
+    by false q = absurd (omega arith)
+
+-- AN IMAGE STAYS READ
+pub stays-read : (image line : List ℕ) → ((k : ℕ) → getD image k 0 < 256) → isRead image ≡ true → isRead (leftOn image line) ≡ true
+stays-read image line octets good =
+    let t : Table = tableFrom image in
+    let g : Good t = record { fit = fit-from image (image-long image octets good); sound = image-sound image octets good } in
+    let same : imageOf t ≡ image = image-written-back image (λ k h. octets k) good in
+    ap (λ o. isRead (leftOn o line)) (sym same) ∙ ap isRead (left-image t g line) ∙ image-good (lineStep t line .table) (line-good t g line)
+
+-- ---- the empty table
+
+pub empty-good : Good emptyTable
+empty-good = record {
+  fit = record { size = length-replicate 96 freeRecord; calls = λ i h. ap (λ r. length (r .call)) (getD-replicate 96 i freeRecord blank h) };
+  sound = empty-sound;
+}
+
+-- its image is all zeros
+free-octets : (n : ℕ) → octetsOfAll (replicate n freeRecord) ≡ replicate (n * 21) 0
+unfolding octetsOfAll octetsOf
+free-octets zero = refl
+free-octets (suc n) =
+    let more : 21 + n * 21 ≡ suc n * 21 = omega arith in
+    ap (λ (l : List ℕ). replicate 21 0 ++ l) (free-octets n) ∙ replicate-append-replicate 21 (n * 21) 0 ∙ ap (λ (k : ℕ). replicate k 0) more
+
+pub empty-image : imageOf emptyTable ≡ replicate 2016 0
+empty-image = free-octets 96

@@ -1,0 +1,53 @@
+-- The record that is read is that of the place (`place-read`); what the event leaves there is written where its number is 0.
+-- Assumes nothing.
+use mathlib.Core.Path.{_≡_, ap, _∙_}
+use borrow.Author.Tests.{eq-eqb, ne-eqb}
+use Rattle.events.specs.Act.{acted}
+use Rattle.image.proofs.Looks.{place-read}
+use borrow.Author.Needs.{needs}
+use Rattle.lent.proofs.act_at.Statement.{statement}
+use Rattle.lent.proofs.act_at.Tie as tie
+
+read-place-requires : tie.Need-read-place-requires
+read-place-requires c κs = search needs
+
+act-requires : tie.Need-act-requires
+act-requires c κs = search needs
+
+write-place-requires : tie.Need-write-place-requires
+write-place-requires c κs = search needs
+
+same-length : tie.Need-same-length
+same-length c = search needs
+
+returns : tie.Need-returns
+returns c =
+    let w = c .before .before in
+    let k = w .before .before .before .before .before .before in
+    let s = k .before .before .before .before .args in
+    let same = k .act .ensures ∙ ap (acted (s .e) (s .i)) (k .before .read-place .ensures ∙ place-read (s .image .now) (s .i) (search needs) (search needs)) in (
+      ap (λ a. a .answer) same,
+      w .write-place .ensures ∙ rw (← same, eq-eqb _ 0 (w .before .before .before .if1 .taken)),
+    )
+
+same-length-2 : tie.Need-same-length-2
+same-length-2 c = search needs
+
+returns-2 : tie.Need-returns-2
+returns-2 c =
+    let k = c .before .before .before in
+    let s = k .before .before .before .before .args in
+    let same = k .act .ensures ∙ ap (acted (s .e) (s .i)) (k .before .read-place .ensures ∙ place-read (s .image .now) (s .i) (search needs) (search needs)) in
+    (ap (λ a. a .answer) same, rw (← same, ne-eqb _ 0 (c .if1 .left)))
+
+pub act-at-spec : {M : Type 1} → statement M
+act-at-spec =
+    tie.close
+    (tie.spec
+    read-place-requires
+    act-requires
+    write-place-requires
+    same-length
+    returns
+    same-length-2
+    returns-2)

@@ -1,0 +1,142 @@
+-- By what the event looks for (`aim-sought`): each arm is a clause of `aimFor`.
+-- Assumes nothing.
+use mathlib.Core.Path.{sym, refl, ap, _∙_}
+use Rattle.table.specs.declared.Table.{Table}
+use Rattle.table.specs.Places.{waitingOn}
+use Rattle.table.specs.Search.{holds, isAt, lowestIn}
+use Rattle.table.proofs.Searches.{found-passes}
+use Rattle.events.specs.Rule.{ruleOf}
+use Rattle.image.specs.Image.{tableFrom}
+use Rattle.image.proofs.Round.{fit-from}
+use Rattle.image.proofs.Looks.{found-in, lowest-found}
+use Rattle.step.specs.Aim.{aimFor, nextWaiting}
+use Rattle.step.proofs.Soughts.{aim-sought}
+use borrow.Author.Needs.{needs}
+use Rattle.lent.proofs.act_on.Statement.{statement}
+use Rattle.lent.proofs.act_on.Tie as tie
+
+sought-of-requires : tie.Need-sought-of-requires
+sought-of-requires c κs = search needs
+
+enum-told : tie.Need-enum-told
+enum-told c = search needs
+
+find-call-requires : tie.Need-find-call-requires
+find-call-requires c κs = search needs
+
+act-found-requires : tie.Need-act-found-requires
+act-found-requires c κs =
+    let f = c .before in
+    let z = f .before .before .before .before .before .before .before in
+    let s = z .args .image .now in
+    let found = f .find-call .ensures ∙ found-in s (z .pre) (z .args .e .call) in
+    (z .pre, λ i q. found-passes (tableFrom s) (fit-from s (z .pre) .size) (λ j. holds (z .args .e .call)) i (sym found ∙ q) .0)
+
+enum-known-a : tie.Need-enum-known-a
+enum-known-a c = search needs
+
+waiting-requires : tie.Need-waiting-requires
+waiting-requires c κs = search needs
+
+lowest-in-requires : tie.Need-lowest-in-requires
+lowest-in-requires c κs = search needs
+
+act-found-requires-2 : tie.Need-act-found-requires-2
+act-found-requires-2 c κs =
+    let f = c .before in
+    let z = f .before .before .before .before .before .before .before .before in
+    let s = z .args .image .now in
+    let a = f .before .before .before .before .a .given .0 .0 in
+    let found = f .lowest-in .ensures ∙ lowest-found s (z .pre) a (f .before .waiting .result) ∙ ap (λ u. lowestIn (tableFrom s) a u) (f .before .waiting .ensures) in
+    (z .pre, λ i q. found-passes (tableFrom s) (fit-from s (z .pre) .size) (isAt a (waitingOn a)) i (sym found ∙ q) .0)
+
+enum-known-d : tie.Need-enum-known-d
+enum-known-d c = search needs
+
+act-new-requires : tie.Need-act-new-requires
+act-new-requires c κs = search needs
+
+enum-known-w : tie.Need-enum-known-w
+enum-known-w c = search needs
+
+decline-requires : tie.Need-decline-requires
+decline-requires c κs = search needs
+
+same-length : tie.Need-same-length
+same-length c = search needs
+
+returns : tie.Need-returns
+returns c =
+    let r = c .before .before in
+    let f = r .before .before in
+    let m = f .before .before .before in
+    let k = m .before .before in
+    let z = k .before .before in
+    let s = z .args .image .now in
+    let t : Table = tableFrom s in
+    let found = f .find-call .ensures ∙ found-in s (z .pre) (z .args .e .call) in
+    let aimed = aim-sought (nextWaiting t) t (z .args .e) (ruleOf (z .args .e .kind)) ∙ ap (aimFor (nextWaiting t) t (z .args .e)) (sym (k .sought-of .ensures) ∙ m .enum-told .given .1) in
+    rw (aimed, ← found) (r .act-found .ensures)
+
+same-length-2 : tie.Need-same-length-2
+same-length-2 c = search needs
+
+returns-2 : tie.Need-returns-2
+returns-2 c =
+    let r = c .before .before in
+    let f = r .before .before in
+    let m = f .before .before .before .before in
+    let k = m .before .before in
+    let z = k .before .before in
+    let s = z .args .image .now in
+    let t : Table = tableFrom s in
+    let a = m .a .given .0 .0 in
+    let found = f .lowest-in .ensures ∙ lowest-found s (z .pre) a (f .before .waiting .result) ∙ ap (λ u. lowestIn (tableFrom s) a u) (f .before .waiting .ensures) in
+    let aimed = aim-sought (nextWaiting t) t (z .args .e) (ruleOf (z .args .e .kind)) ∙ ap (aimFor (nextWaiting t) t (z .args .e)) (sym (k .sought-of .ensures) ∙ m .a .given .1) in
+    rw (aimed, ← found) (r .act-found2 .ensures)
+
+same-length-3 : tie.Need-same-length-3
+same-length-3 c = search needs
+
+returns-3 : tie.Need-returns-3
+returns-3 c =
+    let r = c .before .before in
+    let m = r .before .before .before in
+    let k = m .before .before in
+    let z = k .before .before in
+    let t : Table = tableFrom (z .args .image .now) in
+    let aimed = aim-sought (nextWaiting t) t (z .args .e) (ruleOf (z .args .e .kind)) ∙ ap (aimFor (nextWaiting t) t (z .args .e)) (sym (k .sought-of .ensures) ∙ m .d .given .1) in
+    rw aimed (r .act-new .ensures)
+
+returns-4 : tie.Need-returns-4
+returns-4 c =
+    let m = c .before .before in
+    let k = m .before .before in
+    let z = k .before .before in
+    let t : Table = tableFrom (z .args .image .now) in
+    let aimed = aim-sought (nextWaiting t) t (z .args .e) (ruleOf (z .args .e .kind)) ∙ ap (aimFor (nextWaiting t) t (z .args .e)) (sym (k .sought-of .ensures) ∙ m .w .given .1) in
+    rw aimed (c .decline .ensures, refl)
+
+pub act-on-spec : {M : Type 1} → statement M
+act-on-spec =
+    tie.close
+    (tie.spec
+    sought-of-requires
+    enum-told
+    find-call-requires
+    act-found-requires
+    enum-known-a
+    waiting-requires
+    lowest-in-requires
+    act-found-requires-2
+    enum-known-d
+    act-new-requires
+    enum-known-w
+    decline-requires
+    same-length
+    returns
+    same-length-2
+    returns-2
+    same-length-3
+    returns-3
+    returns-4)

@@ -1,0 +1,42 @@
+-- The test is the definition's; a proposed place has an index (`number-of-side`).
+-- Assumes nothing.
+use mathlib.Core.Path.{sym, _∙_}
+use Rattle.laws.proofs.Bools.{and-left}
+use Rattle.table.specs.declared.State.the-variants.{Free}
+use Rattle.table.specs.Places.{isOf, sideOf}
+use Rattle.step.proofs.Aims.{number-of-side, less-one}
+use Rattle.image.proofs.Looks.{lowest-found}
+use borrow.Author.Needs.{needs}
+use Rattle.lent.proofs.choose.Statement.{statement}
+use Rattle.lent.proofs.choose.Tie as tie
+
+is-proposed-requires : tie.Need-is-proposed-requires
+is-proposed-requires c κs = search needs
+
+sub-t6 : tie.Need-sub-t6
+sub-t6 c =
+    let s = c .before .before .before .before .args in
+    let yes = sym (c .before .before .is-proposed .ensures) ∙ c .before .if1 .taken in
+    number-of-side (s .d) (s .p .0) (and-left (isOf (s .d) (sideOf (s .p))) _ yes) .0
+
+cast-t7 : tie.Need-cast-t7
+cast-t7 c = search needs
+
+lowest-in-requires : tie.Need-lowest-in-requires
+lowest-in-requires c κs = search needs
+
+returns : tie.Need-returns
+returns c =
+    let s = c .before .before .before .before .args in
+    let yes = sym (c .before .before .is-proposed .ensures) ∙ c .before .if1 .taken in
+    rw (yes, ← less-one (s .p .0) (number-of-side (s .d) (s .p .0) (and-left (isOf (s .d) (sideOf (s .p))) _ yes) .0))
+
+returns-2 : tie.Need-returns-2
+returns-2 c =
+    let z = c .before .before .before .before in
+    let no = sym (c .before .before .is-proposed .ensures) ∙ c .before .if1 .left in
+    rw no (c .lowest-in .ensures ∙ lowest-found (z .args .image .now) (z .pre) (z .args .d) Free)
+
+pub choose-spec : {M : Type 1} → statement M
+choose-spec =
+    tie.close (tie.spec is-proposed-requires sub-t6 cast-t7 lowest-in-requires returns returns-2)

@@ -1,0 +1,62 @@
+-- A table that is kept as its image, in octets that the caller lends: the line at an image (`stepOn`, `leftOn`), and what the code does
+-- octet by octet, which asks nothing of an image but its length. `proofs/Kept.antt` shows that at the image of a sound table the two agree.
+-- Assumes nothing.
+use mathlib.Core.Bool.{Bool, cond}
+use mathlib.Core.List.{List}
+use Prim.Native.Nat.{ℕ}
+use lib.Dec.{eqb}
+use lib.ListN.{length}
+use Rattle.table.specs.Places.{recordAt}
+use Rattle.events.specs.declared.Event.{Event}
+use Rattle.events.specs.declared.Answer.{Answer}
+use Rattle.events.specs.declared.Acted.{Acted}
+use Rattle.events.specs.declared.message.Message.the-variants.{NoMessage}
+use Rattle.events.specs.Rule.{ruleOf}
+use Rattle.events.specs.Answers.{saying}
+use Rattle.events.specs.Act.{acted}
+use Rattle.step.specs.declared.Step.{Step}
+use Rattle.step.specs.declared.aim.Aim.{Aim}
+use Rattle.step.specs.declared.aim.Aim.the-variants.{To, Nowhere}
+use Rattle.step.specs.Aim.{aim, nextWaiting}
+use Rattle.step.specs.Step.{stepAny}
+use Rattle.lines.specs.EventLine.{readLine}
+use Rattle.lent.specs.LineStep.{lineStep}
+use Rattle.image.specs.declared.ReadImage.{ReadImage}
+use Rattle.image.specs.Image.{imageOf, placeWritten, tableFrom, readImage}
+
+-- ---- the line at an image
+
+-- the line at the table that was read; an image that is refused has the answer with zeros but for its number, and no table to step
+abbrev pub stepAt : ReadImage → List ℕ → Step
+stepAt r line = cond (eqb (r .number) 0) (lineStep (r .table) line) (record { table = r .table; answer = saying (r .number) NoMessage })
+
+abbrev pub stepOn : List ℕ → List ℕ → Step
+stepOn image line = stepAt (readImage image) line
+
+-- "An accepted event leaves the image of the new table." Any other leaves the image as it was.
+abbrev pub leftOn : List ℕ → List ℕ → List ℕ
+leftOn image line = cond (eqb (stepOn image line .answer .number) 0) (imageOf (stepOn image line .table)) image
+
+-- ---- octet by octet
+
+-- what an event leaves at a place is written there where it is accepted
+abbrev pub writtenAt : List ℕ → ℕ → Acted → List ℕ
+writtenAt image i a = cond (eqb (a .answer .number) 0) (placeWritten i (a .after) image) image
+
+abbrev pub leftFor : List ℕ → Event → Aim → List ℕ
+leftFor image e (Nowhere w) = image
+leftFor image e (To i) = writtenAt image i (acted e i (recordAt (tableFrom image) i))
+
+-- the event at the image
+abbrev pub eventAnswer : List ℕ → Event → Answer
+eventAnswer image e = cond (eqb (length image) 2016) (stepAny (tableFrom image) e .answer) (saying 25 NoMessage)
+
+abbrev pub eventImage : List ℕ → Event → List ℕ
+eventImage image e = cond (eqb (length image) 2016) (leftFor image e (aim (nextWaiting (tableFrom image)) (ruleOf (e .kind)) (tableFrom image) e)) image
+
+-- the line at the image
+abbrev pub lineAnswer : List ℕ → List ℕ → Answer
+lineAnswer image line = cond (eqb (readLine line .number) 0) (eventAnswer image (readLine line .event)) (saying (readLine line .number) NoMessage)
+
+abbrev pub lineImage : List ℕ → List ℕ → List ℕ
+lineImage image line = cond (eqb (readLine line .number) 0) (eventImage image (readLine line .event)) image

@@ -1,0 +1,147 @@
+// The table kept as its image, in octets that the caller lends. No table is copied: an event is for one place, and only the octets of that
+// place are read and written. What comes of a line is defined in specs/Lent.antt, by the machine's own definition.
+
+use events::Answer;
+use events::Event;
+use events::answers;
+use events::refusal::Refusal;
+use events::sought;
+use events::sought::Sought;
+use image::search;
+use table::Found;
+use table::Place;
+use table::Side;
+use table::State;
+ghost use mathlib.Core.Path.{_≡_};
+ghost use mathlib.Core.Bool.{true};
+ghost use Prim.Native.Nat.{ℕ, _<_};
+ghost use lib.ListN.{length};
+ghost use Rattle.table.specs.declared.Found.the-variants.{At};
+ghost use Rattle.table.specs.Places.{recordAt};
+ghost use Rattle.events.specs.Rule.{ruleOf};
+ghost use Rattle.events.specs.Act.{acted};
+ghost use Rattle.step.specs.Aim.{aimAt, isProposed, chosen, aimNew, aim, nextWaiting};
+ghost use Rattle.step.specs.Step.{carriedOut, stepAny};
+ghost use Rattle.image.specs.Image.{tableFrom, isRead};
+ghost use Rattle.lent.specs.Lent.{stepOn, leftOn, writtenAt, leftFor, eventAnswer, eventImage, lineAnswer, lineImage};
+
+// The event at the index that it is for.
+fn act_at(image: &mut [u8], i: usize, e: Event) -> Answer
+    requires { ⌜ (length (now image) ≡ 2016) × (i < 96) ⌝ }
+    ensures { λ r. ⌜ (r ≡ acted e i (recordAt (tableFrom (now (image .entry))) i) .answer) × (now (image .exit) ≡ writtenAt (now (image .entry)) i (acted e i (recordAt (tableFrom (now (image .entry))) i))) ⌝ }
+{
+    let r = image::read_place(i, image);
+    let a = events::act(e, i, r);
+    let answer = a.answer;
+    if answer.number == 0 {
+        let after = a.after;
+        image::write_place(i, after, image);
+    }
+    answer
+}
+
+// The event at the place that was found for it, or its refusal.
+fn act_found(image: &mut [u8], e: Event, f: Found, w: Refusal) -> Answer
+    requires { ⌜ (length (now image) ≡ 2016) × ((i : ℕ) → f ≡ At i → i < 96) ⌝ }
+    ensures { λ r. ⌜ (r ≡ carriedOut (ruleOf (e .kind)) (tableFrom (now (image .entry))) e (aimAt f w) .answer) × (now (image .exit) ≡ leftFor (now (image .entry)) e (aimAt f w)) ⌝ }
+{
+    match f {
+        Found::At(i) => act_at(image, i, e),
+        Found::Nothing => answers::decline(e, w),
+    }
+}
+
+fn is_proposed(image: &[u8], d: Side, p: Place) -> bool
+    requires { ⌜ length (now image) ≡ 2016 ⌝ }
+    ensures { λ r. ⌜ r ≡ isProposed (tableFrom (now (image .entry))) d p ⌝ }
+{
+    if p.side().is_of(d) {
+        let i = (p.0 - 1) as usize;
+        let r = image::read_place(i, image);
+        let s = r.state;
+        s.is_free()
+    } else {
+        false
+    }
+}
+
+// The proposed place, or the lowest free one.
+fn choose(image: &[u8], d: Side, p: Place) -> Found
+    requires { ⌜ length (now image) ≡ 2016 ⌝ }
+    ensures { λ r. ⌜ r ≡ chosen (tableFrom (now (image .entry))) d p ⌝ }
+{
+    if is_proposed(image, d, p) {
+        Found::At((p.0 - 1) as usize)
+    } else {
+        search::lowest_in(image, d, State::Free)
+    }
+}
+
+// A park or an alert.
+fn act_new(image: &mut [u8], d: Side, e: Event) -> Answer
+    requires { ⌜ length (now image) ≡ 2016 ⌝ }
+    ensures { λ r. ⌜ (r ≡ carriedOut (ruleOf (e .kind)) (tableFrom (now (image .entry))) e (aimNew d (tableFrom (now (image .entry))) e) .answer) × (now (image .exit) ≡ leftFor (now (image .entry)) e (aimNew d (tableFrom (now (image .entry))) e)) ⌝ }
+{
+    let call = e.call;
+    match search::find_call(image, call) {
+        Found::At(_) => answers::decline(e, Refusal::CallHeld),
+        Found::Nothing => {
+            let p = e.place;
+            let f = choose(image, d, p);
+            act_found(image, e, f, Refusal::SideFull)
+        }
+    }
+}
+
+fn act_on(image: &mut [u8], e: Event) -> Answer
+    requires { ⌜ length (now image) ≡ 2016 ⌝ }
+    ensures { λ r. ⌜ (r ≡ stepAny (tableFrom (now (image .entry))) e .answer) × (now (image .exit) ≡ leftFor (now (image .entry)) e (aim (nextWaiting (tableFrom (now (image .entry)))) (ruleOf (e .kind)) (tableFrom (now (image .entry))) e)) ⌝ }
+{
+    match sought::sought_of(e) {
+        Sought::Held => {
+            let call = e.call;
+            let f = search::find_call(image, call);
+            act_found(image, e, f, Refusal::CallNotHeld)
+        }
+        Sought::Waiting(a) => {
+            let f = search::lowest_in(image, a, a.waiting());
+            act_found(image, e, f, Refusal::NothingWaits)
+        }
+        Sought::Room(d) => act_new(image, d, e),
+        Sought::Never(w) => answers::decline(e, w),
+    }
+}
+
+// An event at an image. Only the length of the image is looked at: whether it is one of a sound table is `is_read`'s to say.
+pub fn step_event(image: &mut [u8], e: Event) -> Answer
+    ensures { λ r. ⌜ (r ≡ eventAnswer (now (image .entry)) e) × (now (image .exit) ≡ eventImage (now (image .entry)) e) ⌝ }
+{
+    if image.len() != 2016 {
+        return answers::only_number(25);
+    }
+    act_on(image, e)
+}
+
+// A line at an image, in the same way. Where the image is one of a sound table, this is the step of the line at its table.
+pub fn step_line(image: &mut [u8], line: &[u8]) -> Answer
+    ensures { λ r. ⌜ (r ≡ lineAnswer (now (image .entry)) (now (line .entry))) × (now (image .exit) ≡ lineImage (now (image .entry)) (now (line .entry))) × (isRead (now (image .entry)) ≡ true → (lineAnswer (now (image .entry)) (now (line .entry)) ≡ stepOn (now (image .entry)) (now (line .entry)) .answer) × (lineImage (now (image .entry)) (now (line .entry)) ≡ leftOn (now (image .entry)) (now (line .entry)))) ⌝ }
+{
+    let read = lines::read_event(line);
+    if read.number == 0 {
+        let e = read.event;
+        step_event(image, e)
+    } else {
+        answers::only_number(read.number)
+    }
+}
+
+// A line at an image that may be any: refused by 25 where it is not one of a sound table.
+pub fn answer_line(image: &mut [u8], line: &[u8]) -> Answer
+    ensures { λ r. ⌜ (r ≡ stepOn (now (image .entry)) (now (line .entry)) .answer) × (now (image .exit) ≡ leftOn (now (image .entry)) (now (line .entry))) ⌝ }
+{
+    if image::sound::is_read(image) {
+        step_line(image, line)
+    } else {
+        answers::only_number(25)
+    }
+}

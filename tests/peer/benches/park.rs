@@ -1,0 +1,310 @@
+//! The speed of the product beside the peer's, as one table in Markdown: `park_step` within this process, and the
+//! programs on long streams.
+//!
+//! A time is the least of many short rounds in which both sides take turns, so that whatever else the machine does
+//! falls on both and mostly drops out. The instructions are callgrind's counts, which repeat.
+
+#[path = "../tests/compare/product.rs"]
+mod product;
+
+use std::fs::{self, File};
+use std::hint::black_box;
+use std::io::ErrorKind;
+use std::path::{Path, PathBuf};
+use std::process::{Command, Stdio};
+use std::time::{Duration, Instant};
+
+use peer::trial::{line_of, Follower, Rng};
+use peer::{
+    step, write_image, Call, Connection, Event, Invoke, Place, Record, Side, Table, ANSWER_OCTETS, IMAGE_OCTETS,
+    RECORD_OCTETS,
+};
+
+/// Ours first, then the peer's, in this and in every other pair.
+const STEPS: [Step; 2] = [product::park_step, peer::park_step];
+type Step = fn(&mut [u8], &[u8], &mut [u8]) -> usize;
+
+const ROUNDS: usize = 400;
+const SHORTEST_ROUND: Duration = Duration::from_millis(1);
+const PROGRAM_RUNS: usize = 15;
+const STREAM_LINES: usize = 200_000;
+const COUNTED_LINES: usize = STREAM_LINES / 10;
+/// Valgrind runs the smaller count and its double; the difference leaves only the cycles in between.
+const COUNTED_CYCLES: usize = 20;
+
+fn main() {
+    let arguments: Vec<String> = std::env::args().skip(1).collect();
+    match &arguments[..] {
+        [mode, row, side, cycles] if mode == "cycles" => {
+            let [row, side, cycles] = [row, side, cycles].map(|text| text.parse().expect("a number"));
+            let Row { mut image, lines, .. } = step_rows().swap_remove(row);
+            run_cycles(STEPS[side], &mut image, &lines, cycles);
+        }
+        // Cargo adds an argument of its own.
+        _ => print_table(),
+    }
+}
+
+fn print_table() {
+    println!("| measured | ours | peer | ours / peer | ours, instructions | peer, instructions | ours / peer |");
+    println!("|---|--:|--:|--:|--:|--:|--:|");
+    for (index, row) in step_rows().iter().enumerate() {
+        row.check();
+        let (times, counts) = (cells(Some(row.times()), 0, " ns"), cells(row.instructions(index), 0, ""));
+        println!("| `park_step`, {} | {times} | {counts} |", row.name);
+    }
+    for fill in [24, 90] {
+        let programs = Programs::new(fill);
+        programs.check();
+        let (times, counts) = (cells(Some(programs.times()), 1, " ms"), cells(programs.instructions(), 1, " M"));
+        let name = format!("about {fill} calls, {STREAM_LINES} lines (instructions: {COUNTED_LINES})");
+        println!("| `parkline`, {name} | {times} | {counts} |");
+    }
+}
+
+/// Ours, the peer's, and the first as a multiple of the second.
+fn cells(pair: Option<[f64; 2]>, digits: usize, unit: &str) -> String {
+    match pair {
+        Some([ours, peer]) => format!("{ours:.digits$}{unit} | {peer:.digits$}{unit} | {:.2}", ours / peer),
+        None => "- | - | -".into(),
+    }
+}
+
+/// The least times of both sides, in the order of `STEPS`.
+fn least_by_turns(rounds: usize, round: impl Fn(usize) -> f64) -> [f64; 2] {
+    let mut least = [f64::INFINITY; 2];
+    for _ in 0..rounds {
+        for (side, least) in least.iter_mut().enumerate() {
+            *least = least.min(round(side));
+        }
+    }
+    least
+}
+
+/// A cycle of event lines for `park_step`, after which the image is again what it was before.
+struct Row {
+    name: String,
+    /// What each answer begins with.
+    number: &'static str,
+    image: Vec<u8>,
+    lines: Vec<Vec<u8>>,
+}
+
+fn step_rows() -> Vec<Row> {
+    let row = |name: &str, number, (image, lines)| Row { name: name.into(), number, image, lines };
+    let mut rows = vec![row("no calls", "0", stays(0, random_call))];
+    for calls in [24, 48, 96] {
+        rows.push(row(&format!("{calls} random calls"), "0", stays(calls, random_call)));
+        rows.push(row(&format!("{calls} calls, only their last octets differ"), "0", stays(calls, alike_call)));
+    }
+    rows.push(row("96 calls chosen against our hash", "0", stays(96, colliding_call)));
+    let (image, mut lines) = stays(96, random_call);
+    lines.truncate(1);
+    let mut equal_calls = image.clone();
+    equal_calls.copy_within(1..17, IMAGE_OCTETS - RECORD_OCTETS + 1);
+    let mut six_fields = lines.clone();
+    while six_fields[0].pop() != Some(b'\t') {}
+    rows.push(row("96 random calls, refused line (22)", "22", (image, six_fields)));
+    rows.push(row("96 random calls, refused image (25)", "25", (equal_calls, lines)));
+    rows
+}
+
+/// Differs from the others in its first octets already, as identifiers of real calls do.
+fn random_call(index: usize) -> Call {
+    let mut rng = Rng::new(index as u64);
+    Call(u128::from(rng.word()) << 64 | u128::from(rng.word()))
+}
+
+/// An odd factor keeps these apart and out of order.
+fn alike_call(index: usize) -> Call {
+    Call(random_call(0).0 & !255 | (167 * index as u128) & 255)
+}
+
+/// The library looks for equal calls among those whose halves have the same sum, modulo a prime. Here all have.
+fn colliding_call(index: usize) -> Call {
+    let part = 167 * index as u64;
+    let halves = [part.to_le_bytes(), (!part).to_le_bytes()];
+    Call(u128::from_be_bytes(halves.concat().try_into().expect("16 octets")))
+}
+
+/// The image and the lines: calls spread over the whole table, of which the first, the middle and the last are
+/// picked up, turned down, picked up again, released and entered anew. Without calls, these three come and go one
+/// by one.
+fn stays(calls: usize, call_at: fn(usize) -> Call) -> (Vec<u8>, Vec<Vec<u8>>) {
+    let taken: Vec<usize> = (0..calls).map(|nth| nth * Table::PLACES / calls).collect();
+    let mut records = [Record::FREE; Table::PLACES];
+    for &index in &taken {
+        records[index] = Record { state: Side::of(index).waiting(), call: call_at(index), ..Record::FREE };
+    }
+    let table = Table::from_records(records).expect("the calls differ");
+    let mut image = vec![0; IMAGE_OCTETS];
+    write_image(&table, &mut image).expect("an image's length");
+
+    let mut lines = Vec::new();
+    for share in [0, 1, 2] {
+        let index = match calls {
+            0 => share * (Table::PLACES - 1) / 2,
+            _ => taken[share * (calls - 1) / 2],
+        };
+        let call = call_at(index);
+        let entering = if index < Table::POSITIONS { 1 } else { 2 };
+        let mut stay = [
+            Event { kind: entering, call, place: Place(index as u16 + 1), ..Event::default() },
+            Event { kind: 4, call, connection: Connection(900), ..Event::default() },
+            Event { kind: 10, call, timer: 9, ..Event::default() },
+            Event { kind: 3, call, ..Event::default() },
+            Event { kind: 7, call, invoke: Invoke(2), ..Event::default() },
+        ];
+        if calls > 0 {
+            stay.rotate_left(1);
+        }
+        lines.extend(stay.iter().map(line_of));
+    }
+    (image, lines)
+}
+
+fn run_cycles(step: Step, image: &mut [u8], lines: &[Vec<u8>], cycles: usize) {
+    let mut answer = [0; ANSWER_OCTETS];
+    for _ in 0..cycles {
+        for line in lines {
+            black_box(black_box(step)(image, line, &mut answer));
+        }
+    }
+}
+
+impl Row {
+    /// Both sides do the same, and what the row's name says.
+    fn check(&self) {
+        let mut images = [(); 2].map(|()| self.image.clone());
+        for line in &self.lines {
+            let mut answers = [[0; ANSWER_OCTETS]; 2];
+            for (side, step) in STEPS.iter().enumerate() {
+                step(&mut images[side], line, &mut answers[side]);
+            }
+            assert!(answers[0] == answers[1] && images[0] == images[1], "{}: the two sides differ", self.name);
+            let number = answers[0].split(|&octet| octet == b'\t').next();
+            assert_eq!(number, Some(self.number.as_bytes()), "{}: another number", self.name);
+        }
+        assert!(images[0] == self.image, "{}: the cycle does not close", self.name);
+    }
+
+    /// Nanoseconds per event.
+    fn times(&self) -> [f64; 2] {
+        let time = |side: usize, cycles: usize| {
+            let mut image = self.image.clone();
+            let start = Instant::now();
+            run_cycles(STEPS[side], &mut image, &self.lines, cycles);
+            start.elapsed()
+        };
+        let cycles = [0, 1].map(|side| {
+            let mut cycles = 1;
+            while time(side, cycles) < SHORTEST_ROUND {
+                cycles *= 2;
+            }
+            cycles
+        });
+        least_by_turns(ROUNDS, |side| {
+            time(side, cycles[side]).as_nanos() as f64 / (cycles[side] * self.lines.len()) as f64
+        })
+    }
+
+    /// Instructions per event.
+    fn instructions(&self, index: usize) -> Option<[f64; 2]> {
+        let own = std::env::current_exe().expect("the path of this program");
+        let count = |side: usize, cycles: usize| {
+            let numbers = [index, side, cycles].map(|number| number.to_string());
+            count_instructions(&own, &["cycles", &numbers[0], &numbers[1], &numbers[2]], Stdio::null())
+        };
+        let per_event = |side| {
+            let counted = count(side, 2 * COUNTED_CYCLES)? - count(side, COUNTED_CYCLES)?;
+            Some(counted / (COUNTED_CYCLES * self.lines.len()) as f64)
+        };
+        Some([per_event(0)?, per_event(1)?])
+    }
+}
+
+/// Both programs, and the files of lines that they are given.
+struct Programs {
+    paths: [PathBuf; 2],
+    stream: PathBuf,
+    /// The first lines of the stream, for valgrind.
+    short_stream: PathBuf,
+}
+
+impl Programs {
+    fn new(fill: usize) -> Programs {
+        Programs {
+            paths: [product::parkline(), env!("CARGO_BIN_EXE_peerline").into()],
+            stream: write_stream("stream", fill, STREAM_LINES),
+            short_stream: write_stream("short_stream", fill, COUNTED_LINES),
+        }
+    }
+
+    /// Both print the same, one line for each of the stream.
+    fn check(&self) {
+        let [ours, peer] = [0, 1].map(|side| {
+            let output = Command::new(&self.paths[side]).stdin(open(&self.stream)).output();
+            output.unwrap_or_else(|error| panic!("{}: {error}", self.paths[side].display())).stdout
+        });
+        assert!(ours == peer, "the programs differ");
+        assert_eq!(ours.iter().filter(|&&octet| octet == b'\n').count(), STREAM_LINES);
+    }
+
+    /// Milliseconds for the whole stream, the start of the process included.
+    fn times(&self) -> [f64; 2] {
+        least_by_turns(PROGRAM_RUNS, |side| {
+            let mut command = Command::new(&self.paths[side]);
+            command.stdin(open(&self.stream)).stdout(Stdio::null());
+            let start = Instant::now();
+            let status = command.status().expect("the program ran before");
+            let time = start.elapsed();
+            assert!(status.success(), "{}: {status}", self.paths[side].display());
+            1000.0 * time.as_secs_f64()
+        })
+    }
+
+    /// Millions of instructions for the short stream.
+    fn instructions(&self) -> Option<[f64; 2]> {
+        let count = |side: usize| count_instructions(&self.paths[side], &[], open(&self.short_stream));
+        Some([count(0)? / 1e6, count(1)? / 1e6])
+    }
+}
+
+/// Lines which follow the table that they act on, filled to about the wanted count; the fill is the seed too. The
+/// file stays, in cargo's folder for such files, until the next stream takes its place.
+fn write_stream(name: &str, fill: usize, lines: usize) -> PathBuf {
+    let mut follower = Follower::new(fill as u64, fill);
+    let mut table = Table::empty();
+    let mut text = Vec::new();
+    for _ in 0..lines {
+        let event = follower.event(&table);
+        step(&mut table, &event);
+        text.extend(line_of(&event));
+        text.push(b'\n');
+    }
+    let path = Path::new(env!("CARGO_TARGET_TMPDIR")).join(name);
+    fs::write(&path, text).expect("the stream can be written");
+    path
+}
+
+fn open(stream: &Path) -> Stdio {
+    File::open(stream).expect("the stream was written").into()
+}
+
+/// The instructions of a whole process, or nothing where valgrind is missing.
+fn count_instructions(program: &Path, arguments: &[&str], input: Stdio) -> Option<f64> {
+    let mut valgrind = Command::new("valgrind");
+    // The environment lies above the stack and moves it, and a fill's count depends on the alignment.
+    valgrind.env_clear().envs(std::env::var_os("PATH").map(|path| ("PATH", path)));
+    // Callgrind counts an instruction for each octet of a `rep stosb`, by which glibc fills long buffers where the
+    // processor has ERMS. Without ERMS the vectors that fill the buffer are counted instead.
+    valgrind.env("GLIBC_TUNABLES", "glibc.cpu.hwcaps=-ERMS");
+    valgrind.args(["--tool=callgrind", "--callgrind-out-file=/dev/null"]).arg(program).args(arguments);
+    let output = match valgrind.stdin(input).stdout(Stdio::null()).output() {
+        Err(error) if error.kind() == ErrorKind::NotFound => return None,
+        other => other.expect("valgrind can be started"),
+    };
+    let report = String::from_utf8_lossy(&output.stderr);
+    let count = report.lines().find_map(|line| line.split_once("Collected :")?.1.trim().parse().ok());
+    Some(count.unwrap_or_else(|| panic!("no count from valgrind: {report}")))
+}

@@ -1,0 +1,33 @@
+//! What is compared with the peer: the static library's one function, and the built program. The benchmark uses
+//! this file too.
+
+use std::path::PathBuf;
+
+mod library {
+    #[link(name = "entry", kind = "static")]
+    extern "C" {
+        pub fn park_step(
+            image: *mut u8,
+            image_len: usize,
+            line: *const u8,
+            line_len: usize,
+            answer: *mut u8,
+            answer_len: usize,
+        ) -> usize;
+    }
+}
+
+pub fn park_step(image: &mut [u8], line: &[u8], answer: &mut [u8]) -> usize {
+    let (image_len, line_len, answer_len) = (image.len(), line.len(), answer.len());
+    // SAFETY: three separate buffers, each valid for the length that goes with it.
+    unsafe {
+        library::park_step(image.as_mut_ptr(), image_len, line.as_ptr(), line_len, answer.as_mut_ptr(), answer_len)
+    }
+}
+
+pub fn parkline() -> PathBuf {
+    match std::env::var_os("PARKLINE") {
+        Some(path) => PathBuf::from(path),
+        None => PathBuf::from(concat!(env!("CARGO_MANIFEST_DIR"), "/../../target/bin/parkline")),
+    }
+}

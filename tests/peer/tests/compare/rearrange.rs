@@ -1,0 +1,155 @@
+//! Demand 3 tried on the peer's own runs: the stays of a run, taken one after the other, give the same answers and
+//! the same table.
+
+use peer::trial::{Follower, Rng};
+use peer::{step, write_answer, Answer, Event, State, Table, ANSWER_OCTETS};
+
+use crate::fail;
+
+/// Accepted events with their answers; an index into them names an event.
+type Run = Vec<(Event, Answer)>;
+
+/// From the park or alert at a place to the event that frees it: the events' indices.
+type Stay = Vec<usize>;
+
+struct Stays {
+    /// In the order in which they ended.
+    ended: Vec<Stay>,
+    /// In the order of their places.
+    running: Vec<Stay>,
+}
+
+/// One false way to rearrange, for seeing that the comparison notices it.
+#[derive(Clone, Copy, PartialEq)]
+enum Slip {
+    PickupsNotByName,
+    ProposalsKept,
+    RunningFirst,
+    TwoEventsSwapped,
+    EventLost,
+    EventDoubled,
+}
+
+const SLIPS: [(Slip, &str); 6] = [
+    (Slip::PickupsNotByName, "pickups not by name"),
+    (Slip::ProposalsKept, "proposals kept"),
+    (Slip::RunningFirst, "running stays first"),
+    (Slip::TwoEventsSwapped, "two events swapped"),
+    (Slip::EventLost, "an event lost"),
+    (Slip::EventDoubled, "an event doubled"),
+];
+
+pub fn run() {
+    const RUNS: u64 = 400;
+    let (mut tried, mut accepted, mut ended, mut running) = (0, 0, 0, 0);
+    let mut noticed = [0; SLIPS.len()];
+    for seed in 0..RUNS {
+        let fill = [1, 3, 10, 30, 60, 96][seed as usize % 6];
+        let events = 200 + Rng::new(seed).below(3_000);
+        let (run, table) = random_run(seed, fill, events);
+        let stays = stays_of(&run);
+        check(seed, &run, &stays, &table);
+        for (count, (slip, _)) in noticed.iter_mut().zip(SLIPS) {
+            *count += usize::from(!agrees(&run, &rearranged(&run, &stays, Some(slip)), &table));
+        }
+        tried += events;
+        accepted += run.len();
+        ended += stays.ended.len();
+        running += stays.running.len();
+    }
+    println!(
+        "rearrangement: {RUNS} runs, {tried} events, {accepted} accepted, stays {ended} ended {running} running"
+    );
+    for (count, (_, name)) in noticed.iter().zip(SLIPS) {
+        println!("  {count:>8} runs in which the slip is noticed: {name}");
+        if *count == 0 {
+            fail("a false rearrangement is never noticed");
+        }
+    }
+}
+
+fn random_run(seed: u64, fill: usize, events: usize) -> (Run, Table) {
+    let mut table = Table::empty();
+    let mut follower = Follower::new(seed, fill);
+    let mut run = Run::new();
+    for _ in 0..events {
+        let event = follower.event(&table);
+        let answer = step(&mut table, &event);
+        if answer.number == 0 {
+            run.push((event, answer));
+        }
+    }
+    (run, table)
+}
+
+fn stays_of(run: &Run) -> Stays {
+    let mut ended = Vec::new();
+    let mut places = vec![Stay::new(); Table::PLACES];
+    for (index, (event, answer)) in run.iter().enumerate() {
+        let stay = &mut places[usize::from(answer.place.0) - 1];
+        let entering = matches!(event.kind, 1 | 2);
+        if entering != stay.is_empty() {
+            fail("an event lies outside of every stay, or a stay begins within another");
+        }
+        stay.push(index);
+        if answer.state == State::Free {
+            ended.push(std::mem::take(stay));
+        }
+    }
+    Stays { ended, running: places.into_iter().filter(|stay| !stay.is_empty()).collect() }
+}
+
+/// The events in their new order, each as it asks there.
+fn rearranged(run: &Run, stays: &Stays, slip: Option<Slip>) -> Vec<(usize, Event)> {
+    let mut parts = [&stays.ended, &stays.running];
+    if slip == Some(Slip::RunningFirst) {
+        parts.reverse();
+    }
+    let order = parts.into_iter().flatten().flatten();
+    let mut order: Vec<_> = order.map(|&index| (index, by_name(&run[index], slip))).collect();
+    let middle = order.len() / 2;
+    match slip {
+        Some(Slip::TwoEventsSwapped) => order.swap(middle, middle + 1),
+        Some(Slip::EventLost) => drop(order.remove(middle)),
+        Some(Slip::EventDoubled) => order.insert(middle, order[middle]),
+        _ => {}
+    }
+    order
+}
+
+/// The pickup by choice and the place given by rule depend on the other stays; asked by name, they do not.
+fn by_name((event, answer): &(Event, Answer), slip: Option<Slip>) -> Event {
+    match event.kind {
+        1 | 2 if slip != Some(Slip::ProposalsKept) => Event { place: answer.place, ..*event },
+        3 | 4 if slip != Some(Slip::PickupsNotByName) => Event { choice: 0, call: answer.call, ..*event },
+        _ => *event,
+    }
+}
+
+/// Whether the order, from the empty table, gives every event its answer, octet for octet, and ends in the table.
+fn agrees(run: &Run, order: &[(usize, Event)], table: &Table) -> bool {
+    let text = |answer: &Answer| {
+        let mut line = [0; ANSWER_OCTETS];
+        write_answer(answer, &mut line);
+        line
+    };
+    let mut now = Table::empty();
+    order.iter().all(|(index, event)| text(&step(&mut now, event)) == text(&run[*index].1)) && now == *table
+}
+
+fn check(seed: u64, run: &Run, stays: &Stays, table: &Table) {
+    let order = rearranged(run, stays, None);
+    let mut indices: Vec<_> = order.iter().map(|(index, _)| *index).collect();
+    indices.sort_unstable();
+    if indices.into_iter().ne(0..run.len()) {
+        fail(&format!("rearrangement, seed {seed}: an event is lost or doubled"));
+    }
+    for stay in stays.ended.iter().chain(&stays.running) {
+        if stay.iter().filter(|&&index| run[index].0.kind == 5).count() > 1 {
+            fail(&format!("rearrangement, seed {seed}: two results accepted in one stay"));
+        }
+    }
+    if !agrees(run, &order, table) {
+        fail(&format!("rearrangement, seed {seed}: another answer or another table"));
+    }
+}

@@ -1,0 +1,163 @@
+//! Counts of what has been tried at the C entry, and the demand that nothing was left out.
+
+use std::collections::{BTreeMap, BTreeSet};
+
+use peer::{read_line, Event, Table, RECORD_OCTETS};
+
+use crate::fail;
+
+#[derive(Default)]
+pub struct Tally {
+    pub steps: u64,
+    numbers: [u64; 27],
+    /// By value: kinds of all events, choices of pickups, timers of expiries.
+    values: [BTreeMap<u8, u64>; 3],
+    /// Accepted events by side (position or line), state before, kind.
+    accepted: BTreeMap<(bool, u8, u8), u64>,
+    cases: BTreeMap<&'static str, u64>,
+}
+
+/// How many names `Tally::case` is called with.
+const CASES: usize = 32;
+
+/// By side, state before and kinds: all that "Events" accepts.
+const ACCEPTED: [(bool, u8, &[u8]); 10] = [
+    (true, 0, &[1]),
+    (true, 1, &[3, 4, 7, 8, 10]),
+    (true, 3, &[5, 6, 7, 8, 10]),
+    (true, 4, &[5, 6, 7, 8, 10]),
+    (true, 5, &[7, 8, 10]),
+    (false, 0, &[2]),
+    (false, 2, &[3, 4, 7, 8, 9]),
+    (false, 3, &[5, 6, 7, 8, 10]),
+    (false, 4, &[5, 6, 7, 8, 10]),
+    (false, 5, &[7, 8]),
+];
+
+impl Tally {
+    pub fn case(&mut self, name: &'static str) {
+        *self.cases.entry(name).or_default() += 1;
+    }
+
+    pub fn done(&self) -> u64 {
+        self.numbers[0]
+    }
+
+    /// `image` is the one before the step.
+    pub fn note(&mut self, image: &[u8], line: &[u8], answer: &[u8]) {
+        self.steps += 1;
+        let text = std::str::from_utf8(answer).unwrap_or_default();
+        let field = |index| text.trim_end().split('\t').nth(index).and_then(|field| field.parse::<usize>().ok());
+        let number = field(0).unwrap_or(26);
+        self.numbers[number] += 1;
+        if let (Ok(event), true) = (read_line(line), number <= 10) {
+            self.note_event(image, &event, number);
+            if number == 0 {
+                let index = field(2).expect("a place") - 1;
+                let key = (index < Table::POSITIONS, image[RECORD_OCTETS * index], event.kind);
+                *self.accepted.entry(key).or_default() += 1;
+                if matches!(event.kind, 3 | 4) && field(6) == Some(0) {
+                    self.case("pickup whose count wraps to 0");
+                }
+            }
+        }
+    }
+
+    fn note_event(&mut self, image: &[u8], event: &Event, number: usize) {
+        *self.values[0].entry(event.kind).or_default() += 1;
+        let named = event.call.0.to_be_bytes();
+        let live = || image.chunks(RECORD_OCTETS).filter(|record| record[0] != 0);
+        let found = live().find(|record| record[1..17] == named);
+        match event.kind {
+            1 | 2 => {
+                let proposed = usize::from(event.place.0);
+                self.case(match proposed {
+                    0 => "entry proposing 0",
+                    64 => "entry proposing 64",
+                    65 => "entry proposing 65",
+                    96 => "entry proposing 96",
+                    97 => "entry proposing 97",
+                    65_535 => "entry proposing 65535",
+                    98.. => "entry proposing 98 to 65534",
+                    _ if image[RECORD_OCTETS * (proposed - 1)] != 0 => "entry proposing another taken place",
+                    _ => "entry proposing another free place",
+                });
+                if number == 0 && live().any(|record| record[1..16] == named[..15]) {
+                    self.case("entry beside a call that differs in the last octet only");
+                }
+                if number == 0 && live().any(|record| record[2..17] == named[1..]) {
+                    self.case("entry beside a call that differs in the first octet only");
+                }
+            }
+            3 | 4 => {
+                *self.values[1].entry(event.choice).or_default() += 1;
+                match (event.kind, event.connection.0) {
+                    (4, 0) => self.case("pickrequ of connection 0"),
+                    (4, 65_535) => self.case("pickrequ of connection 65535"),
+                    _ => {}
+                }
+            }
+            10 => *self.values[2].entry(event.timer).or_default() += 1,
+            _ => {}
+        }
+        if let (Some(record), 5..=7) = (found, event.kind) {
+            let count = u16::from_be_bytes([record[19], record[20]]);
+            self.case(match event.invoke.0.wrapping_sub(count) {
+                0 => "kinds 5 to 7 with the count",
+                1 => "kinds 5 to 7 with the count and one more",
+                u16::MAX => "kinds 5 to 7 with the count less one",
+                _ => "kinds 5 to 7 with another number",
+            });
+        }
+        if matches!(event.kind, 5..=10) || matches!((event.kind, event.choice), (3 | 4, 0)) {
+            self.case(if found.is_some() {
+                "named call is in the table"
+            } else {
+                "named call is not in the table"
+            });
+        }
+    }
+
+    /// Prints the counts, and fails where something possible never came, or something impossible did.
+    pub fn print_and_demand(&self) {
+        println!("entry in all: {} events, {} accepted", self.steps, self.done());
+        let numbers = (0..27).zip(self.numbers).filter(|(_, count)| *count > 0);
+        println!("  answer numbers {}", listed(numbers.clone()));
+        for ((name, last), seen) in [("kinds", 12), ("choices", 4), ("timers", 10)].into_iter().zip(&self.values) {
+            let wanted = (0..=last).chain([255]).map(|value| (value, seen.get(&value).copied().unwrap_or(0)));
+            let (wanted, all) = (wanted.collect::<Vec<_>>(), seen.values().sum::<u64>());
+            let others = all - wanted.iter().map(|(_, count)| count).sum::<u64>();
+            println!("  {name} {}, others {others}", listed(wanted.iter().copied()));
+            if wanted.iter().any(|(_, count)| *count == 0) {
+                fail(&format!("one of the {name} was never tried"));
+            }
+        }
+        for (name, count) in &self.cases {
+            println!("  {count:>8} {name}");
+        }
+        let expected: BTreeSet<_> = ACCEPTED
+            .iter()
+            .flat_map(|&(position, state, kinds)| kinds.iter().map(move |&kind| (position, state, kind)))
+            .collect();
+        let seen: BTreeSet<_> = self.accepted.keys().copied().collect();
+        let rarest = self.accepted.values().min().copied().unwrap_or(0);
+        println!(
+            "  accepted sorts (side, state, kind): {} of {}, the rarest {rarest} times",
+            seen.len(),
+            expected.len()
+        );
+        if numbers.map(|(number, _)| number).ne((0..=10).chain(21..=26)) {
+            fail("an answer number never came");
+        }
+        if self.cases.len() != CASES {
+            fail(&format!("{} of the {CASES} listed cases came", self.cases.len()));
+        }
+        if seen != expected {
+            fail(&format!("accepted sorts missing or too many: {:?}", seen.symmetric_difference(&expected)));
+        }
+    }
+}
+
+fn listed(counts: impl Iterator<Item = (u8, u64)>) -> String {
+    counts.map(|(value, count)| format!("{value}:{count}")).collect::<Vec<_>>().join(" ")
+}
