@@ -54,8 +54,8 @@ fn answer_last(s: Session) {
 // input does: the turns are counted down from a number that no run uses up.
 pub fn answer_all() {
     let mut s = Session::start();
-    let mut piece = [0u8; 8192];
-    let mut out = [0u8; 499712];
+    let mut piece = [0u8; 16384];
+    let mut out = [0u8; 999424];
     let mut turns = u64::MAX;
     while turns > 0 {
         let t = answer_some(s, &mut piece, &mut out);

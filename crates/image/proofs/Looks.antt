@@ -1,14 +1,14 @@
 -- Looking through the places of an image, one after the other.
 -- Assumes nothing.
 use mathlib.Core.Path.{_≡_, refl, sym, ap, _∙_}
-use mathlib.Core.Bool.{Bool, true, false, cond, not}
+use mathlib.Core.Bool.{Bool, true, false, cond, not, _&&_}
 use mathlib.Core.List.{List}
 use Prim.Native.Nat.{ℕ, zero, suc, _+_, _-_, _*_, _<_, _≤_}
 use native.Mathlib.Omega.{arith}
 use lib.Dec.{eqb}
 use lib.ListN.{length, getD, take, drop}
 use lib.Seq.{take-all}
-use borrow.Author.Tests.{eq-eqb, ne-eqb, lt-ltb}
+use borrow.Author.Tests.{eq-eqb, lt-ltb}
 use Rattle.table.specs.declared.Side.{Side}
 use Rattle.table.specs.declared.State.{State}
 use Rattle.table.specs.declared.Record.{Record}
@@ -35,12 +35,25 @@ pub lowest-past : (p : ℕ → Record → Bool) (s : List ℕ) (i : ℕ) → 96 
 unfolding recordsFrom
 lowest-past p s i h = let none : 96 - i ≡ 0 = omega arith in rw none
 
-pub holds-free : (s : List ℕ) (i : ℕ) (call : List ℕ) → getD s (i * 21) 0 ≡ 0 → holds call (recordFrom s (i * 21)) ≡ false
-holds-free s i call h = rw (free-octet s (i * 21), eq-eqb (getD s (i * 21) 0) 0 h)
+and-true : (b : Bool) → (b && true) ≡ b
+and-true true = refl
+and-true false = refl
 
-pub holds-busy : (s : List ℕ) (i : ℕ) (call : List ℕ) → (getD s (i * 21) 0 ≡ 0 → ⊥) → holds call (recordFrom s (i * 21)) ≡ sameCall (take 16 (drop (i * 21 + 1) s)) call
-unfolding recordFrom
-holds-busy s i call h = rw (free-octet s (i * 21), ne-eqb (getD s (i * 21) 0) 0 h)
+and-false : (b : Bool) → (b && false) ≡ false
+and-false true = refl
+and-false false = refl
+
+-- a place holds a call by its octets: the call first, and then the state
+module _ (s : List ℕ) (i : ℕ) (call : List ℕ) where
+  by-octets : holds call (recordFrom s (i * 21)) ≡ (not (eqb (getD s (i * 21) 0) 0) && sameCall (take 16 (drop (i * 21 + 1) s)) call)
+  unfolding recordFrom
+  by-octets = rw (free-octet s (i * 21))
+
+  pub holds-same : sameCall (take 16 (drop (i * 21 + 1) s)) call ≡ true → holds call (recordFrom s (i * 21)) ≡ not (eqb (getD s (i * 21) 0) 0)
+  holds-same h = by-octets ∙ rw h (and-true (not (eqb (getD s (i * 21) 0) 0)))
+
+  pub holds-other : sameCall (take 16 (drop (i * 21 + 1) s)) call ≡ false → holds call (recordFrom s (i * 21)) ≡ false
+  holds-other h = by-octets ∙ rw h (and-false (not (eqb (getD s (i * 21) 0) 0)))
 
 -- an image of the right length
 module _ (s : List ℕ) (size : length s ≡ 2016) where
