@@ -1,9 +1,9 @@
 -- Looking through the places of an image, one after the other.
 -- Assumes nothing.
-use mathlib.Core.Path.{_≡_, refl, sym, ap, _∙_}
+use mathlib.Core.Path.{_≡_, refl, sym, _∙_}
 use mathlib.Core.Bool.{Bool, true, false, cond, not, _&&_}
 use mathlib.Core.List.{List}
-use Prim.Native.Nat.{ℕ, zero, suc, _+_, _-_, _*_, _<_, _≤_}
+use Prim.Native.Nat.{ℕ, _+_, _-_, _*_, _<_, _≤_}
 use native.Mathlib.Omega.{arith}
 use lib.Dec.{eqb}
 use lib.ListN.{length, getD, take, drop}
@@ -15,7 +15,7 @@ use Rattle.table.specs.declared.Record.{Record}
 use Rattle.table.specs.declared.Found.the-variants.{At, Nothing}
 use Rattle.table.specs.Places.{recordAt}
 use Rattle.table.specs.Search.{sameCall, holds, lowest, findCall, lowestIn}
-use Rattle.image.specs.Image.{stateOf, recordFrom, recordsFrom, tableFrom, placeRead, foundIn, lowestFound}
+use Rattle.image.specs.Image.{recordFrom, recordsFrom, tableFrom, placeRead, foundIn, lowestFound}
 use Rattle.image.proofs.Apart.{record-at}
 use Rattle.image.proofs.Fills.{records-step}
 use Rattle.image.proofs.PlaceLaws.{free-octet}

@@ -8,11 +8,10 @@ mod words;
 use table::Record;
 use table::Table;
 ghost use mathlib.Core.Path.{_≡_};
-ghost use Prim.Native.Nat.{_≤_, _<_};
+ghost use Prim.Native.Nat.{_<_};
 ghost use lib.ListN.{length};
-ghost use lib.Seq.{sets};
 ghost use Rattle.table.specs.Places.{emptyTable};
-ghost use Rattle.image.specs.Image.{octetsOfAll, imageOf, writtenNumber, written, placeWritten, placeRead, recordsFrom, tableFrom, readImage};
+ghost use Rattle.image.specs.Image.{imageOf, writtenNumber, written, placeWritten, placeRead, tableFrom, readImage};
 
 // What reading an image gives: number 0 and its table, or 25 and the empty table.
 pub struct ReadImage {

@@ -8,10 +8,9 @@ ghost use mathlib.Core.Path.{_≡_};
 ghost use mathlib.Core.Bool.{true, false, _&&_};
 ghost use Prim.Native.Nat.{ℕ, _+_, _*_, _≤_, _<_};
 ghost use lib.ListN.{length, take, drop};
-ghost use Rattle.table.specs.Search.{sameCall};
 ghost use Rattle.table.specs.Sound.{allZeros, isSound};
 ghost use Rattle.image.specs.Image.{recordFrom, statesFit, tableFrom, isRead};
-ghost use Rattle.image.specs.Quick.{placeFits, Busy, callAt, runAt, bucketOf, lastIn, Linked, Apart, Entered};
+ghost use Rattle.image.specs.Quick.{placeFits, Busy, callAt, bucketOf, lastIn, Linked, Apart, Entered};
 
 // Are the twenty octets after a state octet zeros?
 fn all_zeros(image: &[u8], at: usize) -> bool

@@ -8,7 +8,7 @@ use Prim.Native.Nat.{ℕ, zero, suc, _+_, _*_, _<_}
 use native.Mathlib.Omega.{arith}
 use lib.Dec.{eqb}
 use lib.ListN.{length, getD, replicate, length-replicate, getD-replicate, replicate-append-replicate}
-use borrow.Author.Tests.{eqb-true, eqb-false}
+use borrow.Author.Tests.{eqb-false}
 use Rattle.table.specs.declared.Table.{Table}
 use Rattle.table.specs.Places.{freeRecord, emptyTable, blank, recordAt}
 use Rattle.table.specs.Sound.{isSound}
@@ -16,7 +16,6 @@ use Rattle.table.proofs.Facts.{empty-sound}
 use Rattle.table.proofs.Keep.{put-size, each}
 use Rattle.events.specs.declared.Event.{Event}
 use Rattle.events.specs.declared.message.Message.the-variants.{NoMessage}
-use Rattle.events.specs.declared.refusal.Refusal.the-variants.{TableUnsound}
 use Rattle.events.specs.Rule.{ruleOf}
 use Rattle.events.specs.Answers.{saying}
 use Rattle.events.specs.Act.{acted}
@@ -24,15 +23,15 @@ use Rattle.step.specs.declared.Step.{Step}
 use Rattle.step.specs.declared.aim.Aim.{Aim}
 use Rattle.step.specs.declared.aim.Aim.the-variants.{To, Nowhere}
 use Rattle.step.specs.Aim.{aim, nextWaiting}
-use Rattle.step.specs.Step.{refusedBy, carriedOut, stepAny, stepOf}
+use Rattle.step.specs.Step.{carriedOut, stepOf}
 use Rattle.step.proofs.Aims.{aim-inside}
 use Rattle.step.proofs.Promises.{keeps-sound, refusal-keeps}
 use Rattle.lines.specs.declared.ReadEvent.{ReadEvent}
 use Rattle.lines.specs.EventLine.{readLine}
-use Rattle.lent.specs.LineStep.{stepRead, lineStep}
+use Rattle.lent.specs.LineStep.{lineStep}
 use Rattle.lines.proofs.ReadCalls.{read-long}
 use Rattle.image.specs.declared.ReadImage.{ReadImage}
-use Rattle.image.specs.Image.{octetsOf, octetsOfAll, imageOf, tableFrom, isRead, readImage}
+use Rattle.image.specs.Image.{octetsOf, octetsOfAll, imageOf, tableFrom, isRead}
 use Rattle.image.proofs.Round.{Fit, fit-from, image-reads-back, image-written-back}
 use Rattle.lent.specs.Lent.{stepOn, stepAt, leftOn}
 use Rattle.lent.proofs.Kept.{acted-long, image-long, image-sound}

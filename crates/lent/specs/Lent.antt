@@ -1,7 +1,7 @@
 -- A table that is kept as its image, in octets that the caller lends: the line at an image (`stepOn`, `leftOn`), and what the code does
 -- octet by octet, which asks nothing of an image but its length. `proofs/Kept.antt` shows that at the image of a sound table the two agree.
 -- Assumes nothing.
-use mathlib.Core.Bool.{Bool, cond}
+use mathlib.Core.Bool.{cond}
 use mathlib.Core.List.{List}
 use Prim.Native.Nat.{ℕ}
 use lib.Dec.{eqb}

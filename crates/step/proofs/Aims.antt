@@ -20,8 +20,8 @@ use Rattle.table.specs.declared.Record.{Record}
 use Rattle.table.specs.declared.Table.{Table}
 use Rattle.table.specs.declared.Found.{Found}
 use Rattle.table.specs.declared.Found.the-variants.{At, Nothing}
-use Rattle.table.specs.Places.{stateNumber, sameState, isFree, sideIndex, sameSide, sideOf, isOf, sideAt, placeAt, waitingOn, recordAt}
-use Rattle.table.specs.Search.{holds, isAt, lowest, findCall, lowestIn}
+use Rattle.table.specs.Places.{stateNumber, sameState, isFree, sameSide, sideOf, isOf, sideAt, waitingOn, recordAt}
+use Rattle.table.specs.Search.{holds, isAt, findCall, lowestIn}
 use Rattle.table.proofs.Searches.{found-passes, none-found}
 use Rattle.events.specs.declared.Event.{Event}
 use Rattle.events.specs.declared.rule.Signal.{Signal}
@@ -29,11 +29,11 @@ use Rattle.events.specs.declared.rule.Rule.{Rule}
 use Rattle.events.specs.declared.rule.Rule.the-variants.{Start, On, Unknown}
 use Rattle.events.specs.declared.rule.Signal.the-variants.{LocalPickup, PickRequest, PickupResult, PickupError, ErrorInRelease, Release, Answered, Expiry}
 use Rattle.events.specs.declared.refusal.Refusal.{Refusal}
-use Rattle.events.specs.declared.refusal.Refusal.the-variants.{ChoiceOrTimer, CallHeld, SideFull, CallNotHeld, NothingWaits}
+use Rattle.events.specs.declared.refusal.Refusal.the-variants.{ChoiceOrTimer, SideFull, CallNotHeld, NothingWaits}
 use Rattle.step.specs.declared.aim.Aim.{Aim}
 use Rattle.step.specs.declared.aim.Aim.the-variants.{To, Nowhere}
 use Rattle.events.specs.Sought.{isTimer}
-use Rattle.step.specs.Aim.{aimAt, indexOf, isProposed, chosen, unlessHeld, aimNew, aimNamed, aimPickup, aimExpiry, aimOn, aim, nextWaiting}
+use Rattle.step.specs.Aim.{aimAt, indexOf, isProposed, chosen, unlessHeld, aimNew, aimNamed, aimPickup, aimOn, aim, nextWaiting}
 use Rattle.step.specs.Promises.{namesCall}
 
 -- ---- sides and states by their numbers

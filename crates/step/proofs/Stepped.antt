@@ -20,7 +20,7 @@ use Rattle.events.specs.declared.rule.Rule.the-variants.{Start, On, Unknown}
 use Rattle.events.specs.declared.rule.Signal.{Signal}
 use Rattle.events.specs.declared.message.Message.{Message}
 use Rattle.events.specs.declared.refusal.Refusal.{Refusal}
-use Rattle.events.specs.declared.refusal.Refusal.the-variants.{UnknownKind, CallNotHeld, TableUnsound}
+use Rattle.events.specs.declared.refusal.Refusal.the-variants.{CallNotHeld, TableUnsound}
 use Rattle.events.specs.declared.turn.Stage.{Stage}
 use Rattle.events.specs.declared.turn.Stage.the-variants.{Waits}
 use Rattle.events.specs.declared.turn.Outcome.{Outcome}
@@ -30,7 +30,7 @@ use Rattle.step.specs.declared.aim.Aim.the-variants.{To, Nowhere}
 use Rattle.events.specs.Rule.{ruleOf}
 use Rattle.events.specs.Answers.{declined}
 use Rattle.events.specs.Turn.{heldRecord, greeting, turnOn}
-use Rattle.step.specs.Aim.{aim, aimNew, aimOn, nextWaiting}
+use Rattle.step.specs.Aim.{aim, aimOn, nextWaiting}
 use Rattle.step.specs.Step.{refusedBy, done, settled, carriedOut, stepOf}
 use Rattle.step.proofs.Aims.{Room, aim-new, aim-on}
 

@@ -25,7 +25,7 @@ use Rattle.events.specs.declared.turn.Stage.{Stage}
 use Rattle.events.specs.declared.turn.Stage.the-variants.{Waits, AskedHere, AskedFrom, Taken}
 use Rattle.events.specs.declared.turn.Outcome.{Outcome}
 use Rattle.events.specs.declared.turn.Outcome.the-variants.{Refused, Freed, Becomes}
-use Rattle.events.specs.Turn.{stateAt, connectionAt, released, failedInRelease, runs, turnOn}
+use Rattle.events.specs.Turn.{stateAt, connectionAt, runs, turnOn}
 use Rattle.step.specs.Promises.{offered, Move, goes-on, hands-over, ends, is-left}
 
 pub stage-fits : (a : Side) (g : Stage) → fitsSide a (stateAt a g) ≡ true

@@ -1,6 +1,6 @@
 -- The record that is read is that of the place (`place-read`); what the event leaves there is written where its number is 0.
 -- Assumes nothing.
-use mathlib.Core.Path.{_≡_, ap, _∙_}
+use mathlib.Core.Path.{ap, _∙_}
 use borrow.Author.Tests.{eq-eqb, ne-eqb}
 use Rattle.events.specs.Act.{acted}
 use Rattle.image.proofs.Looks.{place-read}

@@ -1,7 +1,6 @@
 -- The call is compared with all of the octets given (`whole-call`), and the state octet is 0 where the place is free.
 -- Assumes nothing.
 use mathlib.Core.Path.{_≡_, sym, ap, _∙_}
-use mathlib.Core.Bool.{true, false}
 use Prim.Native.Nat.{_+_, _*_}
 use lib.ListN.{take, drop}
 use Rattle.table.specs.Search.{sameCall}

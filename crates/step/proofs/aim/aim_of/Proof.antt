@@ -1,6 +1,6 @@
 -- By what the event looks for (`aim-sought`): each arm is a clause of `aimFor`.
 -- Assumes nothing.
-use mathlib.Core.Path.{_≡_, sym, ap, _∙_}
+use mathlib.Core.Path.{sym, ap, _∙_}
 use Rattle.events.specs.declared.refusal.Refusal.the-variants.{NothingWaits}
 use Rattle.events.specs.Rule.{ruleOf}
 use Rattle.step.specs.Aim.{aimAt, nextWaiting}
