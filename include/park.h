@@ -6,9 +6,12 @@
  *
  * Event line, without its line feed, at most 62 octets, seven fields parted by tabs:
  *     kind  call  place  choice  connection  invoke  timer
- * Answer line, ended by a line feed, at most 61 octets with it, ten fields parted by tabs:
- *     number  call  place  state  message  connection  invoke  error  started  stopped
+ * Answer line, ended by a line feed, at most 77 octets with it, fourteen fields parted by tabs:
+ *     number  call  place  state  message  connection  invoke  error  started  stopped  message  connection  invoke  error
  * Numbers are decimal with no leading zeros; the call is 32 lowercase hexadecimal digits.
+ *
+ * The last four fields are those of a second message, to be sent after the first: where T3 ends the wait of a call that was asked for from
+ * elsewhere, the held call is released first, and then the picker is told. They are zeros in every other answer.
  *
  * An answer's number is 0 where the event is done. Then the image is that of the table after it. Any other number is a refusal, and the
  * image stays as it was, octet for octet.
@@ -24,7 +27,7 @@ extern "C" {
 #endif
 
 #define PARK_IMAGE_OCTETS 2016
-#define PARK_ANSWER_OCTETS 61
+#define PARK_ANSWER_OCTETS 77
 
 /*
  * Takes one event. Gives the count of octets written to the answer, its line feed included, and leaves the octets beyond them as they were.

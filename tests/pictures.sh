@@ -48,7 +48,13 @@ function row(    what) {
     if (column[6] != 0) return
     what = column[3] == 10 ? "10 T" column[5] : column[3] " " kinds[column[3]]
     if (column[4] != "-") { either[what]; what = what " (" column[4] ")" }
-    want[column[1], "s" column[2] " --> s" column[7] " : " what (column[8] ? " / message " column[8] : "")]
+    want[column[1], "s" column[2] " --> s" column[7] " : " what sent(column[8], column[12])]
+}
+
+# What stands on an arrow for the messages of a row. They are sent in this order, so it counts.
+function sent(first, second) {
+    if (second) return " / messages " first " and " second
+    return first ? " / message " first : ""
 }
 
 # An entry of crates.txt: its crate and what that stands on are boxes, with an arrow between them.

@@ -56,9 +56,14 @@ struct event {
     unsigned link; /* the signalling connection it came on; the table has no such field */
 };
 
+struct message {
+    unsigned number, connection, invoke, error;
+};
+
 struct answer {
-    unsigned number, place, state, message, connection, invoke, error, started, stopped;
+    unsigned number, place, state, started, stopped;
     char call[CALL_DIGITS + 1];
+    struct message first, second;
 };
 
 /* All zeros is the empty table. Only park_step writes here. */
@@ -91,8 +96,9 @@ static struct answer step(const struct event *e)
                        e->connection, e->invoke, e->timer);
     size_t n = park_step(image, sizeof image, (const uint8_t *)line, (size_t)len, (uint8_t *)text, PARK_ANSWER_OCTETS);
     text[n] = '\0';
-    if (sscanf(text, "%u %32s %u %u %u %u %u %u %u %u", &a.number, a.call, &a.place, &a.state, &a.message,
-               &a.connection, &a.invoke, &a.error, &a.started, &a.stopped) != 10)
+    if (sscanf(text, "%u %32s %u %u %u %u %u %u %u %u %u %u %u %u", &a.number, a.call, &a.place, &a.state,
+               &a.first.number, &a.first.connection, &a.first.invoke, &a.first.error, &a.started, &a.stopped,
+               &a.second.number, &a.second.connection, &a.second.invoke, &a.second.error) != 14)
         fail("no answer to", line);
     return a;
 }
@@ -101,14 +107,21 @@ static struct answer step(const struct event *e)
  * Connection and invoke may rightly be 0, so the message says whether they are set, not their value. Messages 5 and 6
  * go to the one who picks up; all others go to the far end of the held call, or of the call that could not be parked.
  */
-static void send_message(const struct answer *a, unsigned link)
+static void send_message(const struct message *m, unsigned link)
 {
-    printf("    send %s", message_names[a->message]);
-    if (a->message == 5 || a->message == 6) printf(" to connection %u", a->connection);
-    else if (a->message != 0) printf(" on link %u", link);
-    if (a->message == 3 || a->message == 4) printf(", invoke %u", a->invoke);
-    if (a->error != 0) printf(", error %u %s", a->error, error_names[a->error]);
+    printf("    send %s", message_names[m->number]);
+    if (m->number == 5 || m->number == 6) printf(" to connection %u", m->connection);
+    else if (m->number != 0) printf(" on link %u", link);
+    if (m->number == 3 || m->number == 4) printf(", invoke %u", m->invoke);
+    if (m->error != 0) printf(", error %u %s", m->error, error_names[m->error]);
     printf("\n");
+}
+
+/* Both messages of an answer, in their order. Most have no second one: it tells a picker that T3 ended the wait. */
+static void send_messages(const struct answer *a, unsigned link)
+{
+    send_message(&a->first, link);
+    if (a->second.number != 0) send_message(&a->second, link);
 }
 
 /*
@@ -139,7 +152,7 @@ static void take(const struct event *e)
     if (a.number != 0) {
         /* the table is as it was and no clock changes, but a refused park or pickrequ still has its error to send */
         printf("    refused by %u\n", a.number);
-        send_message(&a, e->link);
+        send_messages(&a, e->link);
         return;
     }
     if (e->kind == PARK || e->kind == ALERT) {
@@ -147,7 +160,7 @@ static void take(const struct event *e)
         h->link = e->link;
     }
     printf("    place %u: state %u %s\n", a.place, a.state, state_names[a.state]);
-    send_message(&a, h->link);
+    send_messages(&a, h->link);
     set_clocks(h, &a);
     /* the next park may take the place at once, so nothing of this stay may be left */
     if (a.state == 0) memset(h, 0, sizeof *h);

@@ -1,6 +1,7 @@
 /*
- * park_step from C: the session of the scope paper, every refusal that only the entry can give, and what is left in each buffer. The
- * expected lines are the paper's own, or follow from a sentence of it that stands beside them. Each buffer is framed by guard octets.
+ * park_step from C: the session of the scope paper, what a picker is told, every refusal that only the entry can give, and what is left in
+ * each buffer. The expected lines are the paper's own, or follow from a sentence of it or of a change request that stands beside them. Each
+ * buffer is framed by guard octets.
  */
 #include "park.h"
 
@@ -82,8 +83,26 @@ static void text(const char *s) { set(&line, s, strlen(s)); }
 #define ZEROS "00000000000000000000000000000000"
 #define ONE "00000000000000000000000000000001"
 #define PARK_17 "1\t" ONE "\t17\t0\t0\t0\t0"
+#define RELEASE_WITH_ERROR(invoke) "7\t" ONE "\t0\t0\t0\t" invoke "\t0"
+#define RELEASE "8\t" ONE "\t0\t0\t0\t0\t0"
+#define T3_EXPIRY "10\t" ONE "\t0\t0\t0\t0\t3"
+/* Q-1: "four fields at its end: message, connection, invoke, error of the second, zeros if there is none" */
+#define NO_SECOND "\t0\t0\t0\t0\n"
+#define PARKED_17 "0\t" ONE "\t17\t1\t1\t0\t0\t0\t1\t0" NO_SECOND
 /* "The answer then has zeros everywhere but its number" */
-#define ONLY(number) number "\t" ZEROS "\t0\t0\t0\t0\t0\t0\t0\t0\n"
+#define ONLY(number) number "\t" ZEROS "\t0\t0\t0\t0\t0\t0\t0\t0" NO_SECOND
+
+/*
+ * The record of call ONE: "per place 21 octets, place 1 first: state, call, connection, count, the last two high octet first". In state 4
+ * the connection is 900.
+ */
+static void put_record(uint8_t *at, uint8_t state, uint8_t count)
+{
+    at[0] = state;
+    at[16] = state != 0;
+    if (state == 4) at[17] = 900 / 256, at[18] = 900 % 256;
+    at[20] = count;
+}
 
 /* "One session in full" */
 static void session(void)
@@ -93,37 +112,33 @@ static void session(void)
         "4\t" ONE "\t0\t0\t900\t0\t0",
         "5\t" ONE "\t0\t0\t0\t1\t0",
         "4\t" ZEROS "\t0\t1\t901\t0\t0",
-        "8\t" ONE "\t0\t0\t0\t0\t0",
+        RELEASE,
     };
     static const char *const says[] = {
-        "0\t" ONE "\t17\t1\t1\t0\t0\t0\t1\t0\n",
-        "0\t" ONE "\t17\t4\t4\t0\t1\t0\t4\t0\n",
-        "0\t" ONE "\t17\t5\t5\t900\t0\t0\t0\t4\n",
-        "6\t" ZEROS "\t0\t0\t6\t901\t0\t1\t0\t0\n",
-        "0\t" ONE "\t17\t0\t0\t0\t0\t0\t0\t1\n",
+        PARKED_17,
+        "0\t" ONE "\t17\t4\t4\t0\t1\t0\t4\t0" NO_SECOND,
+        "0\t" ONE "\t17\t5\t5\t900\t0\t0\t0\t4" NO_SECOND,
+        "6\t" ZEROS "\t0\t0\t6\t901\t0\t1\t0\t0" NO_SECOND,
+        "0\t" ONE "\t17\t0\t0\t0\t0\t0\t0\t1" NO_SECOND,
     };
-    /* "per place 21 octets, place 1 first: state, call, connection, count, the last two high octet first" */
     static const uint8_t states[] = {1, 4, 5, 5, 0};
     static const uint8_t counts[] = {0, 1, 1, 1, 0};
     int i;
     clear(&image, 0, PARK_IMAGE_OCTETS);
     for (i = 0; i < 5; i++) {
         uint8_t want[PARK_IMAGE_OCTETS] = {0};
-        uint8_t *at = want + 16 * 21;
         text(lines[i]);
         answers(says[i], i != 3);
-        at[0] = states[i];
-        at[16] = states[i] != 0;
-        if (states[i] == 4) at[17] = 900 / 256, at[18] = 900 % 256;
-        at[20] = counts[i];
+        put_record(want + 16 * 21, states[i], counts[i]);
         expect(memcmp(start(&image), want, sizeof want) == 0, "the image of the table after the event");
     }
 }
 
-/* 26: "answer buffer of the C entry shorter than 61 octets", "writes nothing" */
+/* 26: "answer buffer of the C entry shorter than" what Q-1 counts from, 77 octets; "writes nothing" */
 static void short_answers(void)
 {
     size_t len;
+    expect(PARK_ANSWER_OCTETS == 77, "the header says 77");
     clear(&image, 0, PARK_IMAGE_OCTETS);
     text(PARK_17);
     for (len = 0; len < PARK_ANSWER_OCTETS; len++) {
@@ -135,7 +150,7 @@ static void short_answers(void)
         expect(memcmp(&answers_, &answer, sizeof answer) == 0, "26 writes nothing");
     }
     clear(&answer, 0x5A, PARK_ANSWER_OCTETS);
-    expect(call() == strlen("0\t" ONE "\t17\t1\t1\t0\t0\t0\t1\t0\n"), "61 octets are enough");
+    expect(call() == strlen(PARKED_17), "77 octets are enough");
     /* 26 is looked at first: before a bad image and a bad line */
     clear(&image, 0xFF, 7);
     text("x");
@@ -153,6 +168,41 @@ static void refused_image(void)
 }
 
 static uint8_t *record(int place) { return start(&image) + (place - 1) * 21; }
+
+/*
+ * Q-1: "a release (kind 8, and kind 7 taken as 8) in state 4 sends message 6 with error 1, and a T3 expiry in state 4 sends message 7 and
+ * then message 6". In any other state nobody waits to be told. The outstanding number is 1, and each of these events frees its place.
+ */
+static void picker_told(void)
+{
+    static const struct {
+        int place;
+        uint8_t state;
+        const char *event, *says;
+    } ends[] = {
+        {17, 4, RELEASE, "0\t" ONE "\t17\t0\t6\t900\t0\t1\t0\t5" NO_SECOND},
+        {17, 4, RELEASE_WITH_ERROR("5"), "0\t" ONE "\t17\t0\t6\t900\t0\t1\t0\t5" NO_SECOND},
+        {17, 4, RELEASE_WITH_ERROR("1"), "0\t" ONE "\t17\t0\t6\t900\t0\t1\t0\t5" NO_SECOND},
+        {17, 4, T3_EXPIRY, "0\t" ONE "\t17\t0\t7\t0\t0\t0\t0\t5\t6\t900\t0\t1\n"},
+        {70, 4, RELEASE, "0\t" ONE "\t70\t0\t6\t900\t0\t1\t0\t4" NO_SECOND},
+        {70, 4, RELEASE_WITH_ERROR("5"), "0\t" ONE "\t70\t0\t6\t900\t0\t1\t0\t4" NO_SECOND},
+        {17, 1, RELEASE, "0\t" ONE "\t17\t0\t0\t0\t0\t0\t0\t1" NO_SECOND},
+        {17, 1, T3_EXPIRY, "0\t" ONE "\t17\t0\t7\t0\t0\t0\t0\t1" NO_SECOND},
+        {17, 3, RELEASE, "0\t" ONE "\t17\t0\t0\t0\t0\t0\t0\t3" NO_SECOND},
+        {17, 3, T3_EXPIRY, "0\t" ONE "\t17\t0\t7\t0\t0\t0\t0\t3" NO_SECOND},
+        {17, 5, RELEASE, "0\t" ONE "\t17\t0\t0\t0\t0\t0\t0\t1" NO_SECOND},
+        {17, 5, T3_EXPIRY, "0\t" ONE "\t17\t0\t7\t0\t0\t0\t0\t1" NO_SECOND},
+    };
+    static const uint8_t empty[PARK_IMAGE_OCTETS];
+    size_t i;
+    for (i = 0; i < sizeof ends / sizeof *ends; i++) {
+        clear(&image, 0, PARK_IMAGE_OCTETS);
+        put_record(record(ends[i].place), ends[i].state, 1);
+        text(ends[i].event);
+        answers(ends[i].says, 1);
+        expect(memcmp(start(&image), empty, sizeof empty) == 0, "the place is freed");
+    }
+}
 
 static void bad_images(void)
 {
@@ -262,13 +312,14 @@ static void one_place(void)
     }
     text("1\t" ZEROS "\t5\t0\t0\t0\t0");
     /* "a park refused by 3 or 4 has message 2, error 1" */
-    answers("4\t" ZEROS "\t0\t0\t2\t0\t0\t1\t0\t0\n", 0);
+    answers("4\t" ZEROS "\t0\t0\t2\t0\t0\t1\t0\t0" NO_SECOND, 0);
 }
 
 int main(void)
 {
     session();
     short_answers();
+    picker_told();
     bad_images();
     bad_lines();
     one_place();

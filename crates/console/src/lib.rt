@@ -7,6 +7,11 @@ use session::Session;
 ghost use Prim.Native.Nat.{_≤_};
 ghost use lib.ListN.{length};
 
+// The most that is read at once, and room for the answers to it.
+const PIECE_OCTETS: usize = 16384;
+
+const ANSWERS_OCTETS: usize = PIECE_OCTETS * lines::ANSWER_ROOM;
+
 // What one read came to, and the session after it.
 struct Turn {
     ended: bool,
@@ -21,7 +26,8 @@ fn within(n: usize, buf: &[u8]) -> usize
     if n < buf.len() { n } else { buf.len() }
 }
 
-// Reads once, and writes what is answered to it. The buffer has 61 octets for each octet of the piece, so that all answers fit.
+// Reads once, and writes what is answered to it. The buffer has room for an answer for each octet of the piece, so that all
+// answers fit.
 fn answer_some(s: Session, piece: &mut [u8], out: &mut [u8]) -> Turn {
     let got = libc::read(STDIN_FILENO, piece);
     let n = io::count(got, piece);
@@ -45,7 +51,7 @@ fn answer_some(s: Session, piece: &mut [u8], out: &mut [u8]) -> Turn {
 
 // Answers a last line that lacks its feed.
 fn answer_last(s: Session) {
-    let mut out = [0u8; 64];
+    let mut out = [0u8; lines::ANSWER_ROOM];
     let count = within(session::finish(s, &mut out), &out);
     io::write_all(STDOUT_FILENO, &out[..count]);
 }
@@ -54,8 +60,8 @@ fn answer_last(s: Session) {
 // input does: the turns are counted down from a number that no run uses up.
 pub fn answer_all() {
     let mut s = Session::start();
-    let mut piece = [0u8; 16384];
-    let mut out = [0u8; 999424];
+    let mut piece = [0u8; PIECE_OCTETS];
+    let mut out = [0u8; ANSWERS_OCTETS];
     let mut turns = u64::MAX;
     while turns > 0 {
         let t = answer_some(s, &mut piece, &mut out);

@@ -7,12 +7,12 @@ use Prim.Native.Nat.{ℕ}
 use lib.Dec.{ltb}
 use lib.ListN.{length}
 use lib.Seq.{sets}
-use Rattle.lines.specs.AnswerLine.{answerLine}
+use Rattle.lines.specs.AnswerLine.{answerLine, answerRoom}
 use Rattle.lent.specs.Lent.{stepOn, leftOn}
 
--- "26: answer buffer of the C entry shorter than 61 octets"
+-- 26: "answer buffer of the C entry shorter than" `answerRoom` octets
 abbrev pub isShort : List ℕ → Bool
-isShort answer = ltb (length answer) 61
+isShort answer = ltb (length answer) answerRoom
 
 -- "The result is the count of octets written, line feed included; 0 only with refusal 26, which writes nothing."
 abbrev pub countOf : List ℕ → List ℕ → List ℕ → ℕ

@@ -8,7 +8,7 @@ ghost use Rattle.entry.specs.Entry.{countOf, imageAfter, answerAfter};
 pub extern "C" fn park_step(image: &mut [u8], line: &[u8], answer: &mut [u8]) -> usize
     ensures { λ r. ⌜ (r ≡ countOf (now (image .entry)) (now (line .entry)) (now (answer .entry))) × (now (image .exit) ≡ imageAfter (now (image .entry)) (now (line .entry)) (now (answer .entry))) × (now (answer .exit) ≡ answerAfter (now (image .entry)) (now (line .entry)) (now (answer .entry))) ⌝ }
 {
-    if answer.len() < 61 {
+    if answer.len() < lines::ANSWER_ROOM {
         return 0;
     }
     let a = lent::answer_line(image, line);

@@ -1,2 +1,3 @@
 pub mod Released
+pub mod Replies
 pub mod Unique

@@ -9,6 +9,7 @@ use Rattle.events.specs.declared.Acted.{Acted}
 use Rattle.events.specs.declared.rule.Rule.{Rule}
 use Rattle.events.specs.declared.rule.Rule.the-variants.{Start, On, Unknown}
 use Rattle.events.specs.declared.message.Message.{Message}
+use Rattle.events.specs.declared.message.Message.the-variants.{NoMessage}
 use Rattle.events.specs.declared.turn.Outcome.{Outcome}
 use Rattle.events.specs.declared.turn.Outcome.the-variants.{Refused, Freed, Becomes}
 use Rattle.events.specs.Rule.{ruleOf}
@@ -16,8 +17,8 @@ use Rattle.events.specs.Turn.{heldRecord, turn}
 use Rattle.events.specs.Answers.{accepted, declined}
 
 -- a new record at an index, with its call's answer
-abbrev pub changed : ℕ → Record → Record → List ℕ → Message → Acted
-changed i old new call m = record { after = new; answer = accepted i (old .state) (new .state) call m }
+abbrev pub changed : ℕ → Record → Record → List ℕ → Message → Message → Acted
+changed i old new call first second = record { after = new; answer = accepted i (old .state) (new .state) call first second }
 
 -- the call of the stay: a park or an alert brings it, and any other event finds it
 abbrev pub stayCall : Rule → Event → Record → List ℕ
@@ -28,8 +29,8 @@ stayCall Unknown e r = r .call
 -- what an outcome leaves: a refusal the record as it was
 abbrev pub left : Event → ℕ → Record → List ℕ → Outcome → Acted
 left e i r call (Refused w) = record { after = r; answer = declined e w }
-left e i r call (Freed m) = changed i r freeRecord call m
-left e i r call (Becomes s n m) = changed i r (heldRecord (sideAt i) s call n) call m
+left e i r call (Freed first second) = changed i r freeRecord call first second
+left e i r call (Becomes s n m) = changed i r (heldRecord (sideAt i) s call n) call m NoMessage
 
 abbrev pub actedBy : Rule → Event → ℕ → Record → Acted
 actedBy k e i r = left e i r (stayCall k e r) (turn k (sideAt i) r e)

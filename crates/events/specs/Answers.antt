@@ -1,5 +1,5 @@
 -- The answers: to an event that is done, and to one that is refused (document 01, "Refusal numbers", and of "Lines, image, status" the answer
--- line's fields).
+-- line's fields; document 02, Q-1: "An answer therefore holds up to two messages.").
 -- Assumes nothing.
 use mathlib.Core.List.{List}
 use Prim.Native.Nat.{ℕ}
@@ -9,24 +9,23 @@ use Rattle.table.specs.Timers.{startedSet, stoppedSet}
 use Rattle.events.specs.declared.Event.{Event}
 use Rattle.events.specs.declared.Answer.{Answer}
 use Rattle.events.specs.declared.message.Message.{Message}
+use Rattle.events.specs.declared.message.Message.the-variants.{NoMessage}
 use Rattle.events.specs.declared.refusal.Refusal.{Refusal}
 use Rattle.events.specs.Rule.{ruleOf}
-use Rattle.events.specs.Message.{messageNumber, messageConnection, messageInvoke, messageError}
+use Rattle.events.specs.Message.{sent}
 use Rattle.events.specs.Refusal.{refusalNumber, refusalMessage}
 
 -- "An accepted event's call and place are those of its stay, freed or not."
-abbrev pub accepted : ℕ → State → State → List ℕ → Message → Answer
-accepted i before after call m = record {
+abbrev pub accepted : ℕ → State → State → List ℕ → Message → Message → Answer
+accepted i before after call first second = record {
   number = 0;
   call = call;
   place = placeAt i;
   state = stateNumber after;
-  message = messageNumber m;
-  connection = messageConnection m;
-  invoke = messageInvoke m;
-  error = messageError m;
+  first = sent first;
   started = startedSet (sideAt i) before after;
   stopped = stoppedSet (sideAt i) before after;
+  second = sent second;
 }
 
 -- "The answer then has zeros everywhere but its number, except: .."
@@ -36,12 +35,10 @@ saying number m = record {
   call = noCall;
   place = noPlace;
   state = 0;
-  message = messageNumber m;
-  connection = messageConnection m;
-  invoke = messageInvoke m;
-  error = messageError m;
+  first = sent m;
   started = 0;
   stopped = 0;
+  second = sent NoMessage;
 }
 
 -- to an event that is refused

@@ -6,6 +6,7 @@ use Rattle.table.specs.declared.Invoke.{Invoke}
 use Rattle.table.specs.Places.{noConnection, noInvoke}
 use Rattle.events.specs.declared.message.Message.{Message}
 use Rattle.events.specs.declared.message.Message.the-variants.{NoMessage, ParkResult, ParkError, Connect, Facility, PickResult, PickError, ReleaseComplete}
+use Rattle.events.specs.declared.message.Sent.{Sent}
 use Rattle.events.specs.declared.message.ErrorValue.{ErrorValue}
 use Rattle.events.specs.declared.message.ErrorValue.the-variants.{Undefined, CallAlreadyPickedUp}
 
@@ -58,3 +59,7 @@ messageError (Facility n) = 0
 messageError (PickResult c) = 0
 messageError (PickError c x) = errorNumber x
 messageError ReleaseComplete = 0
+
+-- a message as the fields of an answer that it fills
+abbrev pub sent : Message → Sent
+sent m = record { message = messageNumber m; connection = messageConnection m; invoke = messageInvoke m; error = messageError m }

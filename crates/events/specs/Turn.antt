@@ -1,4 +1,4 @@
--- What an event does at one place (document 01, "Events"; H.450.5, 7.3 and 7.5). The outcome says only what changes: a refusal,
+-- What an event does at one place (document 01, "Events"; document 02, Q-1; H.450.5, 7.3 and 7.5). The outcome says only what changes: a refusal,
 -- the end of the stay, or the stage that the call is now at with its count. So a freed record is all zeros, a call stays the
 -- same, an occupied place stays occupied, and only state 4 has a connection, all by construction.
 -- Assumes nothing.
@@ -23,7 +23,6 @@ use Rattle.events.specs.declared.rule.Signal.the-variants.{LocalPickup, 
 use Rattle.events.specs.declared.message.Message.{Message}
 use Rattle.events.specs.declared.message.Message.the-variants.{NoMessage, ParkResult, Connect, Facility, PickResult, PickError, ReleaseComplete}
 use Rattle.events.specs.declared.message.ErrorValue.the-variants.{Undefined}
-use Rattle.events.specs.declared.refusal.Refusal.{Refusal}
 use Rattle.events.specs.declared.refusal.Refusal.the-variants.{UnknownKind, CallNotHeld, PickupPending, StateUnfit, NotOutstanding, TimerNotRunning}
 use Rattle.events.specs.declared.turn.Stage.{Stage}
 use Rattle.events.specs.declared.turn.Stage.the-variants.{Waits, AskedHere, AskedFrom, Taken}
@@ -88,34 +87,41 @@ ifOutstanding right u = cond right u (Refused NotOutstanding)
 -- kind 5: "State 3: freed, no message. State 4: to 5, message 5."
 abbrev pub resulted : Stage → Bool → Invoke → Outcome
 resulted Waits right n = Refused StateUnfit
-resulted AskedHere right n = ifOutstanding right (Freed NoMessage)
+resulted AskedHere right n = ifOutstanding right (Freed NoMessage NoMessage)
 resulted (AskedFrom c) right n = ifOutstanding right (Becomes Taken n (PickResult c))
 resulted Taken right n = Refused StateUnfit
 
 -- kind 6: "State 3: freed, message 7. State 4: back to 1 or 2, message 6."
 abbrev pub failed : Stage → Bool → Invoke → Outcome
 failed Waits right n = Refused StateUnfit
-failed AskedHere right n = ifOutstanding right (Freed ReleaseComplete)
+failed AskedHere right n = ifOutstanding right (Freed ReleaseComplete NoMessage)
 failed (AskedFrom c) right n = ifOutstanding right (Becomes Waits n (PickError c Undefined))
 failed Taken right n = Refused StateUnfit
 
--- kind 8: "Any occupied state: freed, no message."
-abbrev pub released : Outcome
-released = Freed NoMessage
+-- Q-1: what a picker hears who waits for the result when the stay ends: "message 6 with error 1"
+abbrev pub toPicker : Stage → Message
+toPicker Waits = NoMessage
+toPicker AskedHere = NoMessage
+toPicker (AskedFrom c) = PickError c Undefined
+toPicker Taken = NoMessage
+
+-- kind 8: "Any occupied state: freed, no message." Q-1: in state 4 the picker hears of it
+abbrev pub released : Stage → Outcome
+released s = Freed (toPicker s) NoMessage
 
 -- kind 7: "State 3 with the right invoke number: freed, no message. State 4 with the right number: freed, message 6. Every other
 -- state or number: exactly as kind 8."
 abbrev pub failedInRelease : Stage → Bool → Outcome
-failedInRelease Waits right = released
-failedInRelease AskedHere right = cond right (Freed NoMessage) released
-failedInRelease (AskedFrom c) right = cond right (Freed (PickError c Undefined)) released
-failedInRelease Taken right = released
+failedInRelease Waits right = released Waits
+failedInRelease AskedHere right = cond right (Freed NoMessage NoMessage) (released AskedHere)
+failedInRelease (AskedFrom c) right = cond right (Freed (PickError c Undefined) NoMessage) (released (AskedFrom c))
+failedInRelease Taken right = released Taken
 
 -- kind 9: "State 2: freed, no message."
 abbrev pub answered : State → Outcome
 answered Free = Refused StateUnfit
 answered ParkWaiting = Refused StateUnfit
-answered LineWaiting = Freed NoMessage
+answered LineWaiting = Freed NoMessage NoMessage
 answered Requested = Refused StateUnfit
 answered RemoteRequested = Refused StateUnfit
 answered HandedOver = Refused StateUnfit
@@ -124,9 +130,13 @@ answered HandedOver = Refused StateUnfit
 abbrev pub runs : ℕ → ℕ → Bool
 runs set timer = cond (eqb timer 3) (eqb (set % 2) 1) (cond (eqb timer 6) (eqb (set / 2 % 2) 1) (cond (eqb timer 9) (eqb (set / 4 % 2) 1) false))
 
--- kind 10: "T3: freed, message 7. T6: freed, message 7. T9 (house): as kind 6 in state 4."
+-- "T3: freed, message 7. T6: freed, message 7." Q-1: T3 in state 4 "sends message 7 and then message 6"; T6 never runs there
+abbrev pub timedOut : Stage → Outcome
+timedOut s = Freed ReleaseComplete (toPicker s)
+
+-- kind 10; "T9 (house): as kind 6 in state 4."
 abbrev pub expired : Bool → ℕ → Stage → Invoke → Outcome
-expired running timer s n = cond running (cond (eqb timer 9) (failed s true n) (Freed ReleaseComplete)) (Refused TimerNotRunning)
+expired running timer s n = cond running (cond (eqb timer 9) (failed s true n) (timedOut s)) (Refused TimerNotRunning)
 
 -- ---- the turn
 
@@ -137,7 +147,7 @@ turnOn PickRequest a r e = pickedUp (stageOf r) (AskedFrom (e .connection)) (up 
 turnOn PickupResult a r e = resulted (stageOf r) (isOutstanding r (e .invoke)) (r .count)
 turnOn PickupError a r e = failed (stageOf r) (isOutstanding r (e .invoke)) (r .count)
 turnOn ErrorInRelease a r e = failedInRelease (stageOf r) (isOutstanding r (e .invoke))
-turnOn Release a r e = released
+turnOn Release a r e = released (stageOf r)
 turnOn Answered a r e = answered (r .state)
 turnOn Expiry a r e = expired (runs (timerSet a (r .state)) (e .timer)) (e .timer) (stageOf r) (r .count)
 

@@ -13,9 +13,16 @@ ghost use mathlib.Core.Path.{_≡_};
 ghost use Rattle.events.specs.declared.message.Message.the-variants.{NoMessage};
 ghost use Rattle.events.specs.Answers.{accepted, saying, declined};
 
-// The event at an index is done: the state there before and after it, the call of the stay, and the message.
-pub(crate) fn accept(i: usize, before: State, after: State, call: [u8; 16], m: Message) -> Answer
-    ensures { λ r. ⌜ r ≡ accepted i before after call m ⌝ }
+// The event at an index is done: the state there before and after it, the call of the stay, and the messages.
+pub(crate) fn accept(
+    i: usize,
+    before: State,
+    after: State,
+    call: [u8; 16],
+    first: Message,
+    second: Message,
+) -> Answer
+    ensures { λ r. ⌜ r ≡ accepted i before after call first second ⌝ }
 {
     let a = Side::at(i);
     Answer {
@@ -23,12 +30,10 @@ pub(crate) fn accept(i: usize, before: State, after: State, call: [u8; 16], m: M
         call,
         place: Place::at(i),
         state: after.number(),
-        message: m.number(),
-        connection: m.connection(),
-        invoke: m.invoke(),
-        error: m.error(),
+        first: first.sent(),
         started: timers::started(a, before, after),
         stopped: timers::started(a, after, before),
+        second: second.sent(),
     }
 }
 
@@ -40,12 +45,10 @@ fn say(number: u8, m: Message) -> Answer
         call: [0; 16],
         place: Place(0),
         state: 0,
-        message: m.number(),
-        connection: m.connection(),
-        invoke: m.invoke(),
-        error: m.error(),
+        first: m.sent(),
         started: 0,
         stopped: 0,
+        second: Message::NoMessage.sent(),
     }
 }
 

@@ -10,6 +10,7 @@ pub mod sought;
 pub mod turn;
 
 use message::Message;
+use message::Sent;
 use rule::Rule;
 use table::Connection;
 use table::Invoke;
@@ -31,18 +32,16 @@ pub struct Event {
     pub timer: u8,
 }
 
-// The ten fields of an answer line.
+// The fourteen fields of an answer line, of which each message fills four. The first message is sent before the second.
 pub struct Answer {
     pub number: u8,
     pub call: [u8; 16],
     pub place: Place,
     pub state: u8,
-    pub message: u8,
-    pub connection: Connection,
-    pub invoke: Invoke,
-    pub error: u8,
+    pub first: Sent,
     pub started: u8,
     pub stopped: u8,
+    pub second: Sent,
 }
 
 // What an event leaves at its place, and its answer.
@@ -52,14 +51,21 @@ pub struct Acted {
 }
 
 // The place has a new record.
-fn change(i: usize, old: Record, new: Record, call: [u8; 16], m: Message) -> Acted
-    ensures { λ r. ⌜ r ≡ changed i old new call m ⌝ }
+fn change(
+    i: usize,
+    old: Record,
+    new: Record,
+    call: [u8; 16],
+    first: Message,
+    second: Message,
+) -> Acted
+    ensures { λ r. ⌜ r ≡ changed i old new call first second ⌝ }
 {
     let before = old.state;
     let after = new.state;
     Acted {
         after: new,
-        answer: answers::accept(i, before, after, call, m),
+        answer: answers::accept(i, before, after, call, first, second),
     }
 }
 
@@ -83,13 +89,14 @@ fn leave(e: Event, i: usize, r: Record, call: [u8; 16], u: Outcome) -> Acted
             after: r,
             answer: answers::decline(e, w),
         },
-        Outcome::Freed(m) => change(i, r, Record::free(), call, m),
+        Outcome::Freed(first, second) => change(i, r, Record::free(), call, first, second),
         Outcome::Becomes(s, n, m) => change(
             i,
             r,
             turn::held_record(Side::at(i), s, call, n),
             call,
             m,
+            Message::NoMessage,
         ),
     }
 }

@@ -3,7 +3,7 @@
 use table::Connection;
 use table::Invoke;
 ghost use mathlib.Core.Path.{_≡_};
-ghost use Rattle.events.specs.Message.{messageNumber, messageConnection, messageInvoke, messageError, errorNumber};
+ghost use Rattle.events.specs.Message.{messageNumber, messageConnection, messageInvoke, messageError, errorNumber, sent};
 
 pub enum ErrorValue {
     Undefined,
@@ -26,6 +26,14 @@ pub enum Message {
     PickError(Connection, ErrorValue),
     // RELEASE COMPLETE on the held call
     ReleaseComplete,
+}
+
+// A message as the four fields of an answer that it fills; all are zero where there is none.
+pub struct Sent {
+    pub message: u8,
+    pub connection: Connection,
+    pub invoke: Invoke,
+    pub error: u8,
 }
 
 impl ErrorValue {
@@ -102,6 +110,18 @@ impl Message {
             Message::PickResult(_) => 0,
             Message::PickError(_, x) => x.number(),
             Message::ReleaseComplete => 0,
+        }
+    }
+
+    // The four fields.
+    pub(crate) fn sent(self) -> Sent
+        ensures { λ r. ⌜ r ≡ sent self ⌝ }
+    {
+        Sent {
+            message: self.number(),
+            connection: self.connection(),
+            invoke: self.invoke(),
+            error: self.error(),
         }
     }
 }

@@ -14,7 +14,7 @@ use table::State;
 use table::timers;
 ghost use mathlib.Core.Path.{_≡_};
 ghost use Rattle.table.specs.Timers.{timerSet};
-ghost use Rattle.events.specs.Turn.{stageBy, stageOf, stateAt, connectionAt, heldRecord, greeting, up, pickedUp, isOutstanding, ifOutstanding, resulted, failed, released, failedInRelease, answered, runs, expired, turnOn, turn};
+ghost use Rattle.events.specs.Turn.{stageBy, stageOf, stateAt, connectionAt, heldRecord, greeting, up, pickedUp, isOutstanding, ifOutstanding, resulted, failed, toPicker, released, answered, runs, timedOut, expired, turnOn, turn};
 
 // How far the pickup of a held call is.
 pub enum Stage {
@@ -30,8 +30,8 @@ pub enum Stage {
 
 pub enum Outcome {
     Refused(Refusal),
-    // The stay ends.
-    Freed(Message),
+    // The stay ends. The first message is sent before the second.
+    Freed(Message, Message),
     // The stay goes on at this stage, with this count.
     Becomes(Stage, Invoke, Message),
 }
@@ -140,7 +140,10 @@ fn on_result(s: Stage, right: bool, n: Invoke) -> Outcome
 {
     match s {
         Stage::Waits => Outcome::Refused(Refusal::StateUnfit),
-        Stage::AskedHere => if_outstanding(right, Outcome::Freed(Message::NoMessage)),
+        Stage::AskedHere => if_outstanding(
+            right,
+            Outcome::Freed(Message::NoMessage, Message::NoMessage),
+        ),
         Stage::AskedFrom(c) => if_outstanding(
             right,
             Outcome::Becomes(Stage::Taken, n, Message::PickResult(c)),
@@ -155,7 +158,10 @@ fn on_error(s: Stage, right: bool, n: Invoke) -> Outcome
 {
     match s {
         Stage::Waits => Outcome::Refused(Refusal::StateUnfit),
-        Stage::AskedHere => if_outstanding(right, Outcome::Freed(Message::ReleaseComplete)),
+        Stage::AskedHere => if_outstanding(
+            right,
+            Outcome::Freed(Message::ReleaseComplete, Message::NoMessage),
+        ),
         Stage::AskedFrom(c) => {
             let told = Message::PickError(c, ErrorValue::Undefined);
             if_outstanding(right, Outcome::Becomes(Stage::Waits, n, told))
@@ -164,26 +170,23 @@ fn on_error(s: Stage, right: bool, n: Invoke) -> Outcome
     }
 }
 
-// Kind 8.
-fn on_release() -> Outcome
-    ensures { λ r. ⌜ r ≡ released ⌝ }
+// What the end of a stay means to a picker: one whose result is still out hears that none will come.
+fn to_picker(s: Stage) -> Message
+    ensures { λ r. ⌜ r ≡ toPicker s ⌝ }
 {
-    Outcome::Freed(Message::NoMessage)
+    match s {
+        Stage::Waits => Message::NoMessage,
+        Stage::AskedHere => Message::NoMessage,
+        Stage::AskedFrom(c) => Message::PickError(c, ErrorValue::Undefined),
+        Stage::Taken => Message::NoMessage,
+    }
 }
 
-// Kind 7. The call is gone, whether the error inside is up to date or not.
-fn on_error_in_release(s: Stage, right: bool) -> Outcome
-    ensures { λ r. ⌜ r ≡ failedInRelease s right ⌝ }
+// Kinds 7 and 8. The call is gone, whether there is an error inside or not, and whether that is up to date or not.
+fn on_release(s: Stage) -> Outcome
+    ensures { λ r. ⌜ r ≡ released s ⌝ }
 {
-    if !right {
-        return on_release();
-    }
-    match s {
-        Stage::Waits => on_release(),
-        Stage::AskedHere => Outcome::Freed(Message::NoMessage),
-        Stage::AskedFrom(c) => Outcome::Freed(Message::PickError(c, ErrorValue::Undefined)),
-        Stage::Taken => on_release(),
-    }
+    Outcome::Freed(to_picker(s), Message::NoMessage)
 }
 
 // Kind 9.
@@ -193,7 +196,7 @@ fn on_answered(s: State) -> Outcome
     match s {
         State::Free => Outcome::Refused(Refusal::StateUnfit),
         State::ParkWaiting => Outcome::Refused(Refusal::StateUnfit),
-        State::LineWaiting => Outcome::Freed(Message::NoMessage),
+        State::LineWaiting => Outcome::Freed(Message::NoMessage, Message::NoMessage),
         State::Requested => Outcome::Refused(Refusal::StateUnfit),
         State::RemoteRequested => Outcome::Refused(Refusal::StateUnfit),
         State::HandedOver => Outcome::Refused(Refusal::StateUnfit),
@@ -211,6 +214,13 @@ fn does_run(set: u8, timer: u8) -> bool
     }
 }
 
+// T3 or T6 ran out.
+fn on_time_out(s: Stage) -> Outcome
+    ensures { λ r. ⌜ r ≡ timedOut s ⌝ }
+{
+    Outcome::Freed(Message::ReleaseComplete, to_picker(s))
+}
+
 // Kind 10.
 fn on_expiry(running: bool, timer: u8, s: Stage, n: Invoke) -> Outcome
     ensures { λ r. ⌜ r ≡ expired running timer s n ⌝ }
@@ -219,7 +229,7 @@ fn on_expiry(running: bool, timer: u8, s: Stage, n: Invoke) -> Outcome
         if timer == 9 {
             on_error(s, true, n)
         } else {
-            Outcome::Freed(Message::ReleaseComplete)
+            on_time_out(s)
         }
     } else {
         Outcome::Refused(Refusal::TimerNotRunning)
@@ -248,8 +258,8 @@ fn turn_on(k: Signal, a: Side, r: Record, e: Event) -> Outcome
         Signal::PickRequest => pick_up(s, Stage::AskedFrom(c), next, Message::Facility(next)),
         Signal::PickupResult => on_result(s, is_outstanding(r, invoke), n),
         Signal::PickupError => on_error(s, is_outstanding(r, invoke), n),
-        Signal::ErrorInRelease => on_error_in_release(s, is_outstanding(r, invoke)),
-        Signal::Release => on_release(),
+        Signal::ErrorInRelease => on_release(s),
+        Signal::Release => on_release(s),
         Signal::Answered => on_answered(now),
         Signal::Expiry => on_expiry(is_running(a, r, e.timer), e.timer, s, n),
     }

@@ -45,7 +45,7 @@ use Rattle.lent.specs.Lent.{stepOn, leftOn, leftFor, eventAnswer, eventI
 module _ (e : Event) (i : ℕ) (r : Record) (given : length (e .call) ≡ 16) (held : length (r .call) ≡ 16) where
   left-long : (call : List ℕ) (u : Outcome) → length call ≡ 16 → length (left e i r call u .after .call) ≡ 16
   left-long call (Refused w) h = held
-  left-long call (Freed m) h = refl
+  left-long call (Freed first second) h = refl
   left-long call (Becomes g n m) h = h
 
   stay-long : (k : Rule) → length (stayCall k e r) ≡ 16

@@ -8,11 +8,12 @@ use native.Mathlib.Omega.{arith}
 use lib.ListN.{length, getD, length-append}
 use Rattle.events.specs.declared.Event.{Event}
 use Rattle.events.specs.declared.Answer.{Answer}
+use Rattle.events.specs.declared.message.Sent.{Sent}
 use Rattle.lines.specs.Numbers.{decimal}
 use Rattle.lines.specs.Calls.{hexOf}
 use Rattle.lines.specs.EventLine.{eventLine}
-use Rattle.lines.specs.AnswerLine.{answerLine}
-use Rattle.lines.proofs.Decimal.{length-digit, length-two, length-three, length-five}
+use Rattle.lines.specs.AnswerLine.{sentLine, answerLine, answerRoom}
+use Rattle.lines.proofs.Decimal.{decimal-twenty, length-digit, length-two, length-three, length-five}
 use Rattle.lines.proofs.Hexadecimal.{length-hex}
 
 pub length-call : (s : List ℕ) → length s ≡ 16 → length (hexOf s) ≡ 32
@@ -27,12 +28,29 @@ pub length-event : (e : Event) → length (e .call) ≡ 16
 unfolding eventLine
 length-event e h = simp length-append (omega (arith, length-call (e .call) h))
 
+pub length-sent : (x : Sent)
+    → length (sentLine x) ≡ size (x .message) + size (x .connection .0) + size (x .invoke .0) + size (x .error) + 3
+unfolding sentLine
+length-sent x = simp length-append (omega arith)
+
 pub length-answer : (a : Answer) → length (a .call) ≡ 16
     → length (answerLine a)
-    ≡ (size (a .number) + size (a .place .0) + size (a .state)) + (size (a .message) + size (a .connection .0) + size (a .invoke .0))
-    + (size (a .error) + size (a .started) + size (a .stopped)) + 42
+    ≡ (size (a .number) + size (a .place .0) + size (a .state)) + (size (a .started) + size (a .stopped))
+    + (length (sentLine (a .first)) + length (sentLine (a .second))) + 40
 unfolding answerLine
 length-answer a h = simp length-append (omega (arith, length-call (a .call) h))
+
+-- four numbers have no more than twenty digits each
+pub sent-few : (x : Sent) → length (sentLine x) ≤ 83
+sent-few x =
+    omega (
+      arith,
+      length-sent x,
+      decimal-twenty (x .message),
+      decimal-twenty (x .connection .0),
+      decimal-twenty (x .invoke .0),
+      decimal-twenty (x .error),
+    )
 
 -- what the types of an event's fields say of it
 pub record Fit (e : Event) : Type 0 where
@@ -58,20 +76,36 @@ event-line-short e h =
       length-three (e .timer) (h .timer),
     )
 
--- what the paper's numbers say of an answer
+-- what the paper's numbers say of a message
+pub record ShortSent (x : Sent) : Type 0 where
+  pub message : x .message < 10
+  pub connection : x .connection .0 ≤ 65535
+  pub invoke : x .invoke .0 ≤ 65535
+  pub error : x .error < 10
+
+pub sent-short : (x : Sent) → ShortSent x → length (sentLine x) ≤ 15
+sent-short x h =
+    omega (
+      arith,
+      length-sent x,
+      length-digit (x .message) (h .message),
+      length-five (x .connection .0) (h .connection),
+      length-five (x .invoke .0) (h .invoke),
+      length-digit (x .error) (h .error),
+    )
+
+-- and of an answer
 pub record Short (a : Answer) : Type 0 where
   pub number : a .number < 100
   pub long : length (a .call) ≡ 16
   pub place : a .place .0 < 100
   pub state : a .state < 10
-  pub message : a .message < 10
-  pub connection : a .connection .0 ≤ 65535
-  pub invoke : a .invoke .0 ≤ 65535
-  pub error : a .error < 10
+  pub first : ShortSent (a .first)
   pub started : a .started < 10
   pub stopped : a .stopped < 10
+  pub second : ShortSent (a .second)
 
-pub answer-line-short : (a : Answer) → Short a → length (answerLine a) ≤ 61
+pub answer-line-short : (a : Answer) → Short a → length (answerLine a) ≤ answerRoom
 answer-line-short a h =
     omega (
       arith,
@@ -79,10 +113,8 @@ answer-line-short a h =
       length-two (a .number) (h .number),
       length-two (a .place .0) (h .place),
       length-digit (a .state) (h .state),
-      length-digit (a .message) (h .message),
-      length-five (a .connection .0) (h .connection),
-      length-five (a .invoke .0) (h .invoke),
-      length-digit (a .error) (h .error),
+      sent-short (a .first) (h .first),
       length-digit (a .started) (h .started),
       length-digit (a .stopped) (h .stopped),
+      sent-short (a .second) (h .second),
     )

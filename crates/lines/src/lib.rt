@@ -8,18 +8,23 @@ pub mod numbers;
 
 use events::Answer;
 use events::Event;
+use events::message::Sent;
 use numbers::Number;
 use table::Connection;
 use table::Invoke;
 use table::Place;
 ghost use mathlib.Core.Path.{_≡_};
 ghost use mathlib.Core.Bool.{cond};
-ghost use Prim.Native.Nat.{_≤_};
+ghost use mathlib.Core.List.{_++_, _∷_, []};
+ghost use Prim.Native.Nat.{_+_, _≤_, _<_};
 ghost use lib.Dec.{ltb};
 ghost use lib.ListN.{length};
 ghost use lib.Seq.{sets};
 ghost use Rattle.lines.specs.EventLine.{unread, readLine, eventLine};
-ghost use Rattle.lines.specs.AnswerLine.{answerLine};
+ghost use Rattle.lines.specs.AnswerLine.{sentLine, answerLine};
+
+// The octets that hold the line of every answer the table gives, its line feed included.
+pub const ANSWER_ROOM: usize = 77;
 
 // What reading a line gives: number 0 and the event, or the refusal and the event of all zeros.
 pub struct ReadEvent {
@@ -144,6 +149,18 @@ pub fn write_event(e: Event, out: &mut [u8]) -> usize
     put_event(e, out)
 }
 
+// Writes the four fields of a message from an index of the buffer on, and an octet after them: a tab or a line feed. Gives the index
+// after it.
+fn put_sent(out: &mut [u8], at: usize, x: Sent, end: u8) -> usize
+    requires { ⌜ at + length (sentLine x) < length (now out) ⌝ }
+    ensures { λ r. ⌜ (r ≡ at + (length (sentLine x) + 1)) × (now (out .exit) ≡ sets (now (out .entry)) at (sentLine x ++ (end ∷ []))) ⌝ }
+{
+    let p = numbers::put_number_and(out, at, x.message as u64, 9);
+    let p = numbers::put_number_and(out, p, x.connection.0 as u64, 9);
+    let p = numbers::put_number_and(out, p, x.invoke.0 as u64, 9);
+    numbers::put_number_and(out, p, x.error as u64, end)
+}
+
 // Writes the line of an answer where there is room for it.
 fn put_answer(a: Answer, out: &mut [u8]) -> usize
     requires { ⌜ length (answerLine a) ≤ length (now out) ⌝ }
@@ -154,28 +171,33 @@ fn put_answer(a: Answer, out: &mut [u8]) -> usize
     let p = calls::put_call_tab(out, p, call);
     let p = numbers::put_number_and(out, p, a.place.0 as u64, 9);
     let p = numbers::put_number_and(out, p, a.state as u64, 9);
-    let p = numbers::put_number_and(out, p, a.message as u64, 9);
-    let p = numbers::put_number_and(out, p, a.connection.0 as u64, 9);
-    let p = numbers::put_number_and(out, p, a.invoke.0 as u64, 9);
-    let p = numbers::put_number_and(out, p, a.error as u64, 9);
+    let p = put_sent(out, p, a.first, 9);
     let p = numbers::put_number_and(out, p, a.started as u64, 9);
-    numbers::put_number_and(out, p, a.stopped as u64, 10)
+    let p = numbers::put_number_and(out, p, a.stopped as u64, 9);
+    put_sent(out, p, a.second, 10)
+}
+
+// How many octets the four fields of a message have, with the tabs between them.
+fn sent_length(x: Sent) -> usize
+    ensures { λ r. ⌜ r ≡ length (sentLine x) ⌝ }
+{
+    numbers::digits(x.message as u64)
+        + numbers::digits(x.connection.0 as u64)
+        + numbers::digits(x.invoke.0 as u64)
+        + numbers::digits(x.error as u64)
+        + 3
 }
 
 // How many octets the line of an answer has, its line feed included.
 pub fn answer_length(a: Answer) -> usize
     ensures { λ r. ⌜ r ≡ length (answerLine a) ⌝ }
 {
-    let first = numbers::digits(a.number as u64)
+    let head = numbers::digits(a.number as u64)
         + numbers::digits(a.place.0 as u64)
         + numbers::digits(a.state as u64);
-    let middle = numbers::digits(a.message as u64)
-        + numbers::digits(a.connection.0 as u64)
-        + numbers::digits(a.invoke.0 as u64);
-    let last = numbers::digits(a.error as u64)
-        + numbers::digits(a.started as u64)
-        + numbers::digits(a.stopped as u64);
-    first + middle + last + 42
+    let timers = numbers::digits(a.started as u64) + numbers::digits(a.stopped as u64);
+    let messages = sent_length(a.first) + sent_length(a.second);
+    head + timers + messages + 40
 }
 
 // Writes the line of an answer, with its line feed, at the front of the buffer, and gives its length; in a buffer that is too short it

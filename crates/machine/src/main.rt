@@ -145,10 +145,12 @@ fn put_row(side: Side, state: State, kind: u8, reply: Reply, timer: u8) {
     put_timer(timer);
     put_column(a.number);
     put_column(state_after(t, side).number());
-    put_column(a.message);
-    put_column(a.error);
+    put_column(a.first.message);
+    put_column(a.first.error);
     put_column(a.started);
     put_column(a.stopped);
+    put_column(a.second.message);
+    put_column(a.second.error);
     put(b"\n");
 }
 
@@ -184,7 +186,7 @@ fn put_machine(side: Side) {
 
 fn main() {
     put(
-        b"side\tstate\tkind\tinvoke\ttimer\tnumber\tstate after\tmessage\terror\tstarted\tstopped\n",
+        b"side\tstate\tkind\tinvoke\ttimer\tnumber\tstate after\tmessage\terror\tstarted\tstopped\tsecond message\tsecond error\n",
     );
     put_machine(Side::Position);
     put_machine(Side::Line);

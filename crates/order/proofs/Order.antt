@@ -2,15 +2,15 @@
 -- the order of the rows, and the rows of other kinds do not hold.
 -- Assumes nothing.
 use mathlib.Core.Path.{_≡_, refl, sym, _∙_, subst}
-use mathlib.Core.Bool.{Bool, true, false, cond, not, _&&_, _||_, or-false}
-use mathlib.Core.List.{List, [], _∷_}
+use mathlib.Core.Bool.{Bool, true, false, cond, not, _&&_, or-false}
+use mathlib.Core.List.{List}
 use mathlib.Core.Logic.{_⊎_, inl, inr, ⊎-elim}
 use Prim.Native.Nat.{ℕ, zero, suc, _<_, _≤_}
 use native.Mathlib.Nat.{eq-or-lt-of-le}
 use native.Mathlib.Omega.{arith}
-use lib.Dec.{eqb, ltb, leb}
+use lib.Dec.{eqb, ltb}
 use lib.ListN.{length}
-use borrow.Author.Tests.{eqb-true, eq-eqb, ne-eqb, lt-ltb, le-ltb, lt-leb, le-leb, not-true}
+use borrow.Author.Tests.{eqb-true, ne-eqb, lt-ltb, lt-leb, le-leb}
 use Rattle.laws.proofs.Bools.{never, and-left, and-right, and-both, not-both, equal-or, less-or}
 use Rattle.table.specs.declared.Connection.{Connection}
 use Rattle.table.specs.declared.Invoke.{Invoke}
@@ -22,34 +22,30 @@ use Rattle.table.specs.declared.Record.{Record}
 use Rattle.table.specs.declared.Table.{Table}
 use Rattle.table.specs.declared.Found.{Found}
 use Rattle.table.specs.declared.Found.the-variants.{At, Nothing}
-use Rattle.table.specs.Places.{sameState, sameSide, isFree, isOf, sideOf, sideAt, waitingOn, freeRecord, recordAt}
+use Rattle.table.specs.Places.{sameState, sameSide, isFree, isOf, sideOf, sideAt, waitingOn, recordAt}
 use Rattle.table.specs.Timers.{timerSet}
 use Rattle.table.specs.Search.{holds, isAt, findCall, lowestIn}
 use Rattle.table.specs.Sound.{isSound}
 use Rattle.table.proofs.Calls.{holds-occupied}
 use Rattle.table.proofs.Searches.{found-passes, none-passes}
 use Rattle.events.specs.declared.Event.{Event}
-use Rattle.events.specs.declared.rule.Rule.{Rule}
-use Rattle.events.specs.declared.rule.Rule.the-variants.{Start, On, Unknown}
+use Rattle.events.specs.declared.rule.Rule.the-variants.{Start, On}
 use Rattle.events.specs.declared.rule.Signal.{Signal}
 use Rattle.events.specs.declared.rule.Signal.the-variants.{LocalPickup, PickRequest, PickupResult, PickupError, ErrorInRelease, Release, Answered, Expiry}
 use Rattle.events.specs.declared.message.Message.{Message}
 use Rattle.events.specs.declared.message.Message.the-variants.{Connect, Facility}
-use Rattle.events.specs.declared.refusal.Refusal.{Refusal}
 use Rattle.events.specs.declared.refusal.Refusal.the-variants.{ChoiceOrTimer, SideFull, CallNotHeld, NothingWaits}
 use Rattle.events.specs.declared.turn.Stage.{Stage}
 use Rattle.events.specs.declared.turn.Stage.the-variants.{AskedHere, AskedFrom}
 use Rattle.events.specs.declared.turn.Outcome.{Outcome}
 use Rattle.events.specs.declared.turn.Outcome.the-variants.{Refused, Freed, Becomes}
-use Rattle.step.specs.declared.aim.Aim.{Aim}
 use Rattle.step.specs.declared.aim.Aim.the-variants.{To, Nowhere}
-use Rattle.events.specs.Rule.{ruleOf}
 use Rattle.events.specs.Refusal.{refusalNumber}
-use Rattle.events.specs.Turn.{stageBy, up, pickedUp, isOutstanding, resulted, failed, failedInRelease, answered, runs, expired, turnOn}
+use Rattle.events.specs.Turn.{stageBy, stageOf, up, pickedUp, isOutstanding, resulted, failed, failedInRelease, answered, runs, expired, turnOn}
 use Rattle.events.specs.Sought.{isTimer}
-use Rattle.step.specs.Aim.{aimAt, indexOf, isProposed, chosen, unlessHeld, aimNew, aimNamed, aimPickup, aimExpiry, aimOn, aim, nextWaiting}
+use Rattle.events.proofs.Released.{error-in-release}
+use Rattle.step.specs.Aim.{aimAt, indexOf, isProposed, chosen, unlessHeld, aimNew, aimNamed, aimPickup, nextWaiting}
 use Rattle.step.specs.Step.{settled, carriedOut, stepOf}
-use Rattle.step.specs.Promises.{Full}
 use Rattle.order.specs.Order.{firstOf, isFound, recordFound, sideFound, isTaken, isAsked, rows, InOrder}
 use Rattle.step.proofs.Aims.{proposed-side}
 
@@ -57,12 +53,12 @@ use Rattle.step.proofs.Aims.{proposed-side}
 
 abbrev numberOf : Outcome → ℕ
 numberOf (Refused w) = refusalNumber w
-numberOf (Freed m) = 0
+numberOf (Freed first second) = 0
 numberOf (Becomes g n m) = 0
 
 settled-number : (t : Table) (e : Event) (i : ℕ) (call : List ℕ) (u : Outcome) → settled t e i call u .answer .number ≡ numberOf u
 settled-number t e i call (Refused w) = refl
-settled-number t e i call (Freed m) = refl
+settled-number t e i call (Freed first second) = refl
 settled-number t e i call (Becomes g n m) = refl
 
 pickup-number : (s : State) (c : Connection) (to : Stage) (n : Invoke) (m : Message) → numberOf (pickedUp (stageBy s c) to n m) ≡ cond (isTaken s) 7 0
@@ -93,15 +89,8 @@ error-number RemoteRequested c true n = refl
 error-number RemoteRequested c false n = refl
 error-number HandedOver c b n = refl
 
-in-release-number : (s : State) (c : Connection) (b : Bool) → numberOf (failedInRelease (stageBy s c) b) ≡ 0
-in-release-number Free c b = refl
-in-release-number ParkWaiting c b = refl
-in-release-number LineWaiting c b = refl
-in-release-number Requested c true = refl
-in-release-number Requested c false = refl
-in-release-number RemoteRequested c true = refl
-in-release-number RemoteRequested c false = refl
-in-release-number HandedOver c b = refl
+in-release-number : (g : Stage) (b : Bool) → numberOf (failedInRelease g b) ≡ 0
+in-release-number g b = rw (error-in-release g b)
 
 answered-number : (s : State) → numberOf (answered s) ≡ cond (not (sameState s LineWaiting)) 8 0
 answered-number Free = refl
@@ -297,7 +286,7 @@ module _ (t : Table) (size : length (t .places) ≡ 96) (sound : isSound t ≡ t
   kind-7 : (e : Event) → Ordered (withKind 7 e)
   kind-7 e =
       rw sound
-      (named-number t size (withKind 7 e) ErrorInRelease (λ a r. 0) (λ a r. in-release-number (r .state) (r .connection) (isOutstanding r (e .invoke))))
+      (named-number t size (withKind 7 e) ErrorInRelease (λ a r. 0) (λ a r. in-release-number (stageOf r) (isOutstanding r (e .invoke))))
 
   kind-8 : (e : Event) → Ordered (withKind 8 e)
   kind-8 e = rw sound (named-number t size (withKind 8 e) Release (λ a r. 0) (λ a r. refl))

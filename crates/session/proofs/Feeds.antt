@@ -8,7 +8,7 @@ use native.Mathlib.Omega.{arith}
 use lib.ListN.{length, drop, length-append}
 use lib.Seq.{sets, length-sets}
 use Rattle.laws.proofs.Runs.{sets-append}
-use Rattle.lines.specs.AnswerLine.{answerLine}
+use Rattle.lines.specs.AnswerLine.{answerLine, answerRoom}
 use Rattle.session.specs.declared.Session.{Session}
 use Rattle.session.specs.Session.{endLine, restart, after, said}
 use Rattle.session.specs.Keep.{untilFeed}
@@ -19,7 +19,7 @@ pub record Feeding (piece out₀ : List ℕ) (s₀ s : Session) (out : List ℕ)
   pub inside : i ≤ length piece
   pub size : length (s .kept) ≡ 63
   pub same : length out ≡ length out₀
-  pub room : at ≤ 61 * i
+  pub room : at ≤ answerRoom * i
   pub session : after s (drop i piece) ≡ after s₀ piece
   pub count : at + length (said s (drop i piece)) ≡ length (said s₀ piece)
   pub text : sets out at (said s (drop i piece)) ≡ sets out₀ 0 (said s₀ piece)
@@ -28,8 +28,8 @@ pub record Feeding (piece out₀ : List ℕ) (s₀ s : Session) (out : List ℕ)
 pub feeding-same : {piece out₀ : List ℕ} {s₀ s u : Session} {out b : List ℕ} {at i : ℕ} → s ≡ u → out ≡ b → Feeding piece out₀ s₀ u b at i → Feeding piece out₀ s₀ s out at i
 feeding-same p q f = rw (p, q) f
 
--- 61 octets for each octet of the piece
-pub room-for : (o p : ℕ) → p ≤ o / 61 → 61 * p ≤ o
+-- room for an answer for each octet of the piece
+pub room-for : (o p : ℕ) → p ≤ o / answerRoom → answerRoom * p ≤ o
 room-for o p h = omega arith
 
 module _ (piece out₀ : List ℕ) (s₀ : Session) where
@@ -48,7 +48,7 @@ module _ (piece out₀ : List ℕ) (s₀ : Session) where
           rw quiet at (f .text),
         )
 
-    pub feeding-on : e < length piece → (count : ℕ) → count ≡ length (answerLine (endLine now .answer)) → count ≤ 61
+    pub feeding-on : e < length piece → (count : ℕ) → count ≡ length (answerLine (endLine now .answer)) → count ≤ answerRoom
         → Feeding piece out₀ s₀ (restart now) (sets out at (answerLine (endLine now .answer))) (at + count) (e + 1)
     feeding-on inside count long short =
         let line : List ℕ = answerLine (endLine now .answer) in

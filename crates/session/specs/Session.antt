@@ -9,7 +9,7 @@ use lib.Dec.{eqb, ltb}
 use lib.ListN.{length, take, set, replicate}
 use lib.Seq.{sets}
 use Rattle.step.specs.declared.Step.{Step}
-use Rattle.lines.specs.AnswerLine.{answerLine}
+use Rattle.lines.specs.AnswerLine.{answerLine, answerRoom}
 use Rattle.lent.specs.Lent.{stepOn, leftOn}
 use Rattle.session.specs.declared.Session.{Session}
 use Rattle.session.specs.declared.Fed.{Fed}
@@ -55,9 +55,9 @@ saidLast s = cond (eqb (s .len) 0) [] (answerLine (endLine s .answer))
 
 -- ---- pieces and buffers
 
--- 61 octets for each octet of the piece are enough: no answer is longer
+-- room for an answer for each octet of the piece is enough: an empty line is one octet, and no answer is longer
 abbrev pub isEnough : List ℕ → List ℕ → Bool
-isEnough piece out = cond (ltb (length out / 61) (length piece)) false true
+isEnough piece out = cond (ltb (length out / answerRoom) (length piece)) false true
 
 abbrev pub fed : Session → List ℕ → List ℕ → Fed
 fed s piece out =
@@ -68,10 +68,10 @@ abbrev pub fedOut : Session → List ℕ → List ℕ → List ℕ
 fedOut s piece out = cond (isEnough piece out) (sets out 0 (said s piece)) out
 
 abbrev pub finishedOut : Session → List ℕ → List ℕ
-finishedOut s out = cond (ltb (length out) 61) out (sets out 0 (saidLast s))
+finishedOut s out = cond (ltb (length out) answerRoom) out (sets out 0 (saidLast s))
 
 abbrev pub finishedCount : Session → List ℕ → ℕ
-finishedCount s out = cond (ltb (length out) 61) 0 (length (saidLast s))
+finishedCount s out = cond (ltb (length out) answerRoom) 0 (length (saidLast s))
 
 -- ---- the statement
 

@@ -10,7 +10,7 @@ ghost use mathlib.Core.Path.{_≡_};
 ghost use Prim.Native.Nat.{_+_, _-_, _≤_, min};
 ghost use lib.ListN.{length, take, drop};
 ghost use lib.Seq.{sets};
-ghost use Rattle.lines.specs.AnswerLine.{answerLine};
+ghost use Rattle.lines.specs.AnswerLine.{answerLine, answerRoom};
 ghost use Rattle.image.specs.Image.{isRead};
 ghost use Rattle.lent.specs.Lent.{stepOn, leftOn};
 ghost use Rattle.session.specs.Session.{started, fed, fedOut, finishedOut, finishedCount};
@@ -121,19 +121,19 @@ fn answer_at(sound: bool, image: &mut [u8], line: &[u8]) -> Answer
 
 // Answers a line, and writes the answer from an index of the buffer on. Gives the count of octets written.
 fn end_line(sound: bool, image: &mut [u8], line: &[u8], out: &mut [u8], at: usize) -> usize
-    requires { ⌜ (at + 61 ≤ length (now out)) × (sound ≡ isRead (now image)) ⌝ }
-    ensures { λ r. ⌜ (r ≡ length (answerLine (stepOn (now (image .entry)) (now (line .entry)) .answer))) × (now (out .exit) ≡ sets (now (out .entry)) at (answerLine (stepOn (now (image .entry)) (now (line .entry)) .answer))) × (r ≤ 61) × (now (image .exit) ≡ leftOn (now (image .entry)) (now (line .entry))) × (sound ≡ isRead (leftOn (now (image .entry)) (now (line .entry)))) ⌝ }
+    requires { ⌜ (at + answerRoom ≤ length (now out)) × (sound ≡ isRead (now image)) ⌝ }
+    ensures { λ r. ⌜ (r ≡ length (answerLine (stepOn (now (image .entry)) (now (line .entry)) .answer))) × (now (out .exit) ≡ sets (now (out .entry)) at (answerLine (stepOn (now (image .entry)) (now (line .entry)) .answer))) × (r ≤ answerRoom) × (now (image .exit) ≡ leftOn (now (image .entry)) (now (line .entry))) × (sound ≡ isRead (leftOn (now (image .entry)) (now (line .entry)))) ⌝ }
 {
     let a = answer_at(sound, image, line);
     lines::write_answer(a, &mut out[at..])
 }
 
-// Takes a piece of the stream, and writes the answers to the lines that end in it. Where the buffer has less than 61 octets for each octet
-// of the piece, nothing is done.
+// Takes a piece of the stream, and writes the answers to the lines that end in it. Where the buffer has less than `ANSWER_ROOM` octets
+// for each octet of the piece, nothing is done.
 pub fn feed(s: Session, piece: &[u8], out: &mut [u8]) -> Fed
     ensures { λ r. ⌜ (r ≡ fed s (now (piece .entry)) (now (out .entry))) × (now (out .exit) ≡ fedOut s (now (piece .entry)) (now (out .entry))) ⌝ }
 {
-    if out.len() / 61 < piece.len() {
+    if out.len() / lines::ANSWER_ROOM < piece.len() {
         return Fed {
             enough: false,
             session: s,
@@ -168,11 +168,11 @@ pub fn feed(s: Session, piece: &[u8], out: &mut [u8]) -> Fed
     }
 }
 
-// Answers a last line that lacks its feed. Where the buffer has less than 61 octets, nothing is done.
+// Answers a last line that lacks its feed. Where the buffer has less than `ANSWER_ROOM` octets, nothing is done.
 pub fn finish(s: Session, out: &mut [u8]) -> usize
     ensures { λ r. ⌜ (r ≡ finishedCount s (now (out .entry))) × (now (out .exit) ≡ finishedOut s (now (out .entry))) ⌝ }
 {
-    if out.len() < 61 {
+    if out.len() < lines::ANSWER_ROOM {
         return 0;
     }
     if s.len == 0 {

@@ -51,7 +51,7 @@ module _ {p : ℕ} {r : Record} {e : Event} where
   -- the answer's place, call and state are those of the turn
   pub answer-of : {a : Answer} {s : Record} → Turned p r e a s → (a .place ≡ placeAt p) × (a .call ≡ e .call) × (a .state ≡ stateNumber (s .state))
   answer-of (opened d o) = (refl, refl, refl)
-  answer-of (closed k m h t) = (refl, refl, refl)
+  answer-of (closed k first second h t) = (refl, refl, refl)
   answer-of (carried k g n m h t) = (refl, refl, refl)
 
   -- where the record after the turn holds the call, the place is not free

@@ -4,7 +4,6 @@
 -- Assumes nothing.
 use mathlib.Core.Path.{_≡_, refl, sym, ap, _∙_}
 use mathlib.Core.Bool.{Bool, true, false, cond}
-use mathlib.Core.List.{[]}
 use mathlib.Core.Logic.{⊎-elim}
 use Prim.Native.Nat.{ℕ, suc, _+_, _<_}
 use native.Mathlib.Omega.{arith}
@@ -123,11 +122,11 @@ module _ (t : Table) (size : length (t .places) ≡ 96) (e : Event) where
     });
     table = refl;
   }
-  took s (ended k i m at turn) x = record {
+  took s (ended k i first second at turn) x = record {
     at = i;
     place = place-index i (at .inside);
     after = _;
-    turned = closed k m (acts k i (s .answer) refl at) (turn-by-name k (sideAt i) (recordAt t i) e (s .answer) ∙ turn);
+    turned = closed k first second (acts k i (s .answer) refl at) (turn-by-name k (sideAt i) (recordAt t i) e (s .answer) ∙ turn);
     table = refl;
   }
   took s (went-on k i g n m at turn) x = record {
@@ -190,7 +189,7 @@ module _ (t : Table) (size : length (t .places) ≡ 96) (sound : isSound t ≡ t
 
   pub repeats : {a : Answer} {s : Record} → Turned p (recordAt t p) e a s → stepOf t e ≡ record { table = put t p s; answer = a }
   repeats (opened d o) = step-at (Start d) (o .rule) (aim-proposed d o)
-  repeats (closed k m h turned) =
+  repeats (closed k first second h turned) =
       step-at (On k) (h .rule) (aim-named k h)
       ∙ rw (holds-occupied (e .call) (recordAt t p) (h .held), turned, holds-same (e .call) (recordAt t p) (h .held))
   repeats (carried k g n m h turned) =

@@ -1,6 +1,6 @@
--- Who is told that a call is picked up: the last pickrequ of the stay. State 4 is entered by a pickrequ alone, which leaves its
--- connection in the record (`requested`); a result in state 4 is told on the record's connection (`told-there`). Along a stay, built event by
--- event, the record and the list of events so far agree (`Agrees`).
+-- Who is told how a pickrequ came out: the last pickrequ of the stay. State 4 is entered by a pickrequ alone, which leaves its connection in
+-- the record (`requested`); what happens in state 4 is told on the record's connection (`told-once`), and in no other state is anything told
+-- (`told-nothing`). Along a stay, built event by event, the record and the list of events so far agree (`Agrees`).
 -- Assumes nothing.
 use mathlib.Core.Path.{_≡_, refl, sym, ap, _∙_, subst}
 use mathlib.Core.Bool.{Bool, true, false, cond}
@@ -22,13 +22,17 @@ use Rattle.events.specs.declared.rule.Rule.the-variants.{On}
 use Rattle.events.specs.declared.rule.Signal.{Signal}
 use Rattle.events.specs.declared.rule.Signal.the-variants.{LocalPickup, PickRequest, PickupResult, PickupError, ErrorInRelease, Release, Answered, Expiry}
 use Rattle.events.specs.declared.message.Message.{Message}
-use Rattle.events.specs.declared.message.Message.the-variants.{Connect, Facility, PickResult, ReleaseComplete}
+use Rattle.events.specs.declared.message.Message.the-variants.{Connect, Facility, PickResult}
 use Rattle.events.specs.declared.refusal.Refusal.the-variants.{NotOutstanding, TimerNotRunning}
 use Rattle.events.specs.declared.turn.Stage.{Stage}
 use Rattle.events.specs.declared.turn.Stage.the-variants.{Waits, AskedHere, AskedFrom, Taken}
 use Rattle.events.specs.declared.turn.Outcome.the-variants.{Refused, Freed, Becomes}
 use Rattle.events.specs.Rule.{ruleOf}
-use Rattle.events.specs.Turn.{stageOf, stateAt, connectionAt, up, pickedUp, isOutstanding, failed, failedInRelease, answered, runs, turnOn}
+use Rattle.events.specs.Turn.{stageOf, stateAt, connectionAt, up, pickedUp, isOutstanding, failed, answered, runs, timedOut, turnOn}
+use Rattle.events.specs.Reply.{replies, RepliesOnce}
+use Rattle.events.proofs.Released.{error-in-release}
+use Rattle.events.proofs.Replies.{told, silent}
+use Rattle.step.proofs.Pickers.{greeting-silent}
 use Rattle.stays.specs.ParkTable.{machine}
 use Rattle.stays.specs.Demand.{Act, LastRequest, asks, stateAfter, TellsRequester, AllTell, TellsItsRequester}
 use Rattle.stays.proofs.Part.{Part, begun, onward, Whole, whole}
@@ -60,15 +64,6 @@ module _ (g : Stage) (n : Invoke) (m : Message) where
   back (AskedFrom c) false i h = absurd (let z : _≡_ {A = ℕ} 0 1 = cc h in omega arith)
   back Taken b i h = absurd (let z : _≡_ {A = ℕ} 0 1 = cc h in omega arith)
 
-  -- a release ends the stay
-  release-ends : (f : Stage) (b : Bool) → failedInRelease f b ≡ Becomes g n m → ⊥
-  release-ends Waits b h = let z : _≡_ {A = ℕ} 0 1 = cc h in omega arith
-  release-ends AskedHere true h = let z : _≡_ {A = ℕ} 0 1 = cc h in omega arith
-  release-ends AskedHere false h = let z : _≡_ {A = ℕ} 0 1 = cc h in omega arith
-  release-ends (AskedFrom c) true h = let z : _≡_ {A = ℕ} 0 1 = cc h in omega arith
-  release-ends (AskedFrom c) false h = let z : _≡_ {A = ℕ} 0 1 = cc h in omega arith
-  release-ends Taken b h = let z : _≡_ {A = ℕ} 0 1 = cc h in omega arith
-
   answer-ends : (s : State) → answered s ≡ Becomes g n m → ⊥
   answer-ends Free h = let z : _≡_ {A = ℕ} 0 1 = cc h in omega arith
   answer-ends ParkWaiting h = let z : _≡_ {A = ℕ} 0 1 = cc h in omega arith
@@ -91,12 +86,12 @@ module _ (g : Stage) (n : Invoke) (m : Message) where
   to-4 PickupError a r e t q =
       let s : g ≡ Waits = back (stageOf r) (isOutstanding r (e .invoke)) (r .count) t in
       absurd (waits≢4 a (rw s at q))
-  to-4 ErrorInRelease a r e t q = absurd (release-ends (stageOf r) (isOutstanding r (e .invoke)) t)
+  to-4 ErrorInRelease a r e t q = absurd (let z : _≡_ {A = ℕ} 0 1 = cc (sym (error-in-release (stageOf r) (isOutstanding r (e .invoke))) ∙ t) in omega arith)
   to-4 Release a r e t q = absurd (let z : _≡_ {A = ℕ} 0 1 = cc t in omega arith)
   to-4 Answered a r e t q = absurd (answer-ends (r .state) t)
   to-4 Expiry a r e t q = absurd (by (runs (timerSet a (r .state)) (e .timer)) (eqb (e .timer) 9) t)
     where
-      by : (x y : Bool) → cond x (cond y (failed (stageOf r) true (r .count)) (Freed ReleaseComplete)) (Refused TimerNotRunning) ≡ Becomes g n m → ⊥
+      by : (x y : Bool) → cond x (cond y (failed (stageOf r) true (r .count)) (timedOut (stageOf r))) (Refused TimerNotRunning) ≡ Becomes g n m → ⊥
       by true true h = let s : g ≡ Waits = back (stageOf r) true (r .count) h in waits≢4 a (rw s at q)
       by true false h = let z : _≡_ {A = ℕ} 0 1 = cc h in omega arith
       by false y h = let z : _≡_ {A = ℕ} 0 1 = cc h in omega arith
@@ -112,10 +107,10 @@ state-4 RemoteRequested h = refl
 state-4 HandedOver h = absurd (omega arith)
 
 module _ (a : Side) (r : Record) (e : Event) (remote : r .state ≡ RemoteRequested) where
-  not-freed : (m : Message) → turnOn PickupResult a r e ≡ Freed m → ⊥
-  not-freed m t = by (isOutstanding r (e .invoke)) (rw remote at t)
+  not-freed : (first second : Message) → turnOn PickupResult a r e ≡ Freed first second → ⊥
+  not-freed first second t = by (isOutstanding r (e .invoke)) (rw remote at t)
     where
-      by : (b : Bool) → cond b (Becomes Taken (r .count) (PickResult (r .connection))) (Refused NotOutstanding) ≡ Freed m → ⊥
+      by : (b : Bool) → cond b (Becomes Taken (r .count) (PickResult (r .connection))) (Refused NotOutstanding) ≡ Freed first second → ⊥
       by true h = let z : _≡_ {A = ℕ} 0 1 = cc h in omega arith
       by false h = let z : _≡_ {A = ℕ} 0 1 = cc h in omega arith
 
@@ -131,19 +126,28 @@ module _ (a : Side) (r : Record) (e : Event) (remote : r .state ≡ RemoteReques
 module _ {p : ℕ} {r : Record} {e : Event} where
   requested : {a : Answer} {s : Record} → Turned p r e a s → stateNumber (s .state) ≡ 4 → (ruleOf (e .kind) ≡ On PickRequest) × (s .connection ≡ e .connection)
   requested (opened d o) q = absurd (waits≢4 (sideAt p) q)
-  requested (closed k m h t) q = absurd (omega arith)
+  requested (closed k first second h t) q = absurd (omega arith)
   requested (carried k g n m h t) q = let f = to-4 g n m k (sideAt p) r e t q in (h .rule ∙ ap On (f .0), f .1)
 
-  told-there : {a : Answer} {s : Record} → Turned p r e a s → ruleOf (e .kind) ≡ On PickupResult → stateNumber (r .state) ≡ 4
-      → (a .message ≡ 5) × (a .connection ≡ r .connection)
-  told-there (opened d o) rule q = absurd (let z : _≡_ {A = ℕ} 0 1 = cc (sym (o .rule) ∙ rule) in omega arith)
-  told-there (closed k m h t) rule q =
+  told-once : {a : Answer} {s : Record} → Turned p r e a s → stateNumber (r .state) ≡ 4 → RepliesOnce (r .connection) (a .first) (a .second)
+  told-once (opened d o) q = absurd (let z : _≡_ {A = ℕ} 0 4 = rw (o .was) at q in omega arith)
+  told-once (closed k first second h t) q = rw t at (told k (sideAt p) r e (state-4 (r .state) q))
+  told-once (carried k g n m h t) q = (rw t at (told k (sideAt p) r e (state-4 (r .state) q))) .0
+
+  told-result : {a : Answer} {s : Record} → Turned p r e a s → stateNumber (r .state) ≡ 4 → ruleOf (e .kind) ≡ On PickupResult → a .first .message ≡ 5
+  told-result (opened d o) q rule = absurd (let z : _≡_ {A = ℕ} 0 1 = cc (sym (o .rule) ∙ rule) in omega arith)
+  told-result (closed k first second h t) q rule =
       let same : k ≡ PickupResult = one-signal (h .rule) rule in
-      absurd (not-freed (sideAt p) r e (state-4 (r .state) q) m (rw same at t))
-  told-there (carried k g n m h t) rule q =
+      absurd (not-freed (sideAt p) r e (state-4 (r .state) q) first second (rw same at t))
+  told-result (carried k g n m h t) q rule =
       let same : k ≡ PickupResult = one-signal (h .rule) rule in
       let said : m ≡ PickResult (r .connection) = says (sideAt p) r e (state-4 (r .state) q) g n m (rw same at t) in
-      rw said (refl, refl)
+      rw said
+
+  told-nothing : {a : Answer} {s : Record} → Turned p r e a s → (stateNumber (r .state) ≡ 4 → ⊥) → replies (a .first) (a .second) ≡ 0
+  told-nothing (opened d o) other = greeting-silent d
+  told-nothing (closed k first second h t) other = rw t at (silent k (sideAt p) r e (λ q. other (rw q)))
+  told-nothing (carried k g n m h t) other = rw t at (silent k (sideAt p) r e (λ q. other (rw q)))
 
 -- ---- along a stay
 
@@ -165,16 +169,17 @@ request : (xs : List Act) (x : Act) {p : ℕ} {r s : Record} → Turned p r (x .
 request xs x turn q = let f = requested turn q in subst (LastRequest (xs ++ (x ∷ []))) (sym (f .1)) (asks xs x (f .0))
 
 tells : (xs : List Act) (x : Act) {p : ℕ} {r s : Record} → Agrees xs r → Turned p r (x .event) (x .answer) s → TellsRequester xs x
-tells xs x h turn rule q =
-    let four = sym (h .state) ∙ q in
-    let f = told-there turn rule four in
-    (f .0, subst (LastRequest xs) (sym (f .1)) (h .asked four))
+tells xs x {r} h turn = record {
+  once = λ q. let four = sym (h .state) ∙ q in (r .connection, h .asked four, told-once turn four);
+  result = λ q. told-result turn (sym (h .state) ∙ q);
+  silent = λ other. told-nothing turn (λ four. other (h .state ∙ four));
+}
 
 part-agrees : {p : ℕ} {c : List ℕ} {xs : List Act} {r : Record} → Part machine laws p c xs r → Agrees xs r
 part-agrees (begun {x} turn k q) = record {
   state = answer-of turn .2;
   asked = request [] x turn;
-  tell = ((λ rule zero. absurd (omega arith)), tt);
+  tell = (record { once = λ q. absurd (omega arith); result = λ q. absurd (omega arith); silent = λ other. told-nothing turn (λ q. omega arith) }, tt);
 }
 part-agrees (onward {xs} {x} h turn k q) =
     let before = part-agrees h in

@@ -25,6 +25,7 @@ use Rattle.events.specs.declared.rule.Rule.the-variants.{Start, On}
 use Rattle.events.specs.declared.rule.Signal.{Signal}
 use Rattle.events.specs.declared.rule.Signal.the-variants.{PickupResult}
 use Rattle.events.specs.declared.message.Message.{Message}
+use Rattle.events.specs.declared.message.Message.the-variants.{NoMessage}
 use Rattle.events.specs.declared.turn.Stage.{Stage}
 use Rattle.events.specs.declared.turn.Stage.the-variants.{Waits, AskedHere, AskedFrom, Taken}
 use Rattle.events.specs.declared.turn.Outcome.the-variants.{Freed, Becomes}
@@ -56,11 +57,11 @@ pub record Proposes (d : Side) (p : ℕ) (r : Record) (e : Event) : Type 0 where
 
 pub data Turned (p : ℕ) (r : Record) (e : Event) : Answer → Record → Type 0 where
   opened : (d : Side) → Proposes d p r e
-      → Turned p r e (accepted p (r .state) (stateAt (sideAt p) Waits) (e .call) (greeting d)) (heldRecord (sideAt p) Waits (e .call) noInvoke)
-  closed : (k : Signal) (m : Message) → Acts k p r e → turnOn k (sideAt p) r e ≡ Freed m
-      → Turned p r e (accepted p (r .state) Free (e .call) m) freeRecord
+      → Turned p r e (accepted p (r .state) (stateAt (sideAt p) Waits) (e .call) (greeting d) NoMessage) (heldRecord (sideAt p) Waits (e .call) noInvoke)
+  closed : (k : Signal) (first second : Message) → Acts k p r e → turnOn k (sideAt p) r e ≡ Freed first second
+      → Turned p r e (accepted p (r .state) Free (e .call) first second) freeRecord
   carried : (k : Signal) (g : Stage) (n : Invoke) (m : Message) → Acts k p r e → turnOn k (sideAt p) r e ≡ Becomes g n m
-      → Turned p r e (accepted p (r .state) (stateAt (sideAt p) g) (e .call) m) (heldRecord (sideAt p) g (e .call) n)
+      → Turned p r e (accepted p (r .state) (stateAt (sideAt p) g) (e .call) m NoMessage) (heldRecord (sideAt p) g (e .call) n)
 
 -- ---- marks and results
 
@@ -119,12 +120,12 @@ module _ {p : ℕ} {r : Record} {e : Event} where
 
   pub inside : {a : Answer} {s : Record} → Turned p r e a s → p < 96
   inside (opened d o) = o .inside
-  inside (closed k m h t) = h .inside
+  inside (closed k first second h t) = h .inside
   inside (carried k g n m h t) = h .inside
 
   pub agrees : {a : Answer} {s : Record} → Turned p r e a s → eqb (a .number) 0 ≡ true
   agrees (opened d o) = refl
-  agrees (closed k m h t) = refl
+  agrees (closed k first second h t) = refl
   agrees (carried k g n m h t) = refl
 
   no-result : {d : Side} → Proposes d p r e → eqb (e .kind) 5 ≡ false
@@ -137,23 +138,23 @@ module _ {p : ℕ} {r : Record} {e : Event} where
   pub at-start : {a : Answer} {s : Record} → Turned p r e a s → markBy (ruleOf (e .kind)) (a .state) ≡ starts
       → (r ≡ freeRecord) × (holds (e .call) s ≡ true) × (eqb (e .kind) 5 ≡ false)
   at-start (opened d o) m = (o .was, stage-holds (sideAt p) Waits (e .call) noInvoke, no-result o)
-  at-start (closed k w h t) m = absurd (starts≢ends (sym m ∙ end-mark h))
+  at-start (closed k first second h t) m = absurd (starts≢ends (sym m ∙ end-mark h))
   at-start (carried k g n w h t) m = absurd (starts≢goes (sym m ∙ on-mark h g))
 
   pub at-going : {a : Answer} {s : Record} → Turned p r e a s → markBy (ruleOf (e .kind)) (a .state) ≡ goes-on
       → (holds (e .call) r ≡ true) × (holds (e .call) s ≡ true)
   at-going (opened d o) m = absurd (starts≢goes (sym (start-mark (o .rule) (stateNumber (stateAt (sideAt p) Waits))) ∙ m))
-  at-going (closed k w h t) m = absurd (goes≢ends (sym m ∙ end-mark h))
+  at-going (closed k first second h t) m = absurd (goes≢ends (sym m ∙ end-mark h))
   at-going (carried k g n w h t) m = (h .held, stage-holds (sideAt p) g (e .call) n)
 
   pub at-end : {a : Answer} {s : Record} → Turned p r e a s → markBy (ruleOf (e .kind)) (a .state) ≡ ends → (holds (e .call) r ≡ true) × (s ≡ freeRecord)
   at-end (opened d o) m = absurd (starts≢ends (sym (start-mark (o .rule) (stateNumber (stateAt (sideAt p) Waits))) ∙ m))
-  at-end (closed k w h t) m = (h .held, refl)
+  at-end (closed k first second h t) m = (h .held, refl)
   at-end (carried k g n w h t) m = absurd (goes≢ends (sym (on-mark h g) ∙ m))
 
   pub spends : {a : Answer} {s : Record} → Turned p r e a s → markBy (ruleOf (e .kind)) (a .state) ≡ goes-on → eqb (e .kind) 5 ≡ true → s .state ≡ HandedOver
   spends (opened d o) m f = absurd (not-both f (no-result o))
-  spends (closed k w h t) m f = absurd (goes≢ends (sym m ∙ end-mark h))
+  spends (closed k first second h t) m f = absurd (goes≢ends (sym m ∙ end-mark h))
   spends (carried k g n w h t) m f =
       let same : k ≡ PickupResult = one-signal (h .rule) (result-rule (e .kind) f) in
       let taken : g ≡ Taken = hands (sideAt p) r e g n w (rw same at t) in
@@ -162,7 +163,7 @@ module _ {p : ℕ} {r : Record} {e : Event} where
   pub stays-spent : {a : Answer} {s : Record} → Turned p r e a s → markBy (ruleOf (e .kind)) (a .state) ≡ goes-on → r .state ≡ HandedOver
       → (eqb (e .kind) 5 ≡ false) × (s .state ≡ HandedOver)
   stays-spent (opened d o) m q = absurd (starts≢goes (sym (start-mark (o .rule) (stateNumber (stateAt (sideAt p) Waits))) ∙ m))
-  stays-spent (closed k w h t) m q = absurd (goes≢ends (sym m ∙ end-mark h))
+  stays-spent (closed k first second h t) m q = absurd (goes≢ends (sym m ∙ end-mark h))
   stays-spent (carried k g n w h t) m q =
       let gone : stateAt (sideAt p) g ≡ Free = only-left (move-on k (sideAt p) r e g n w (holds-occupied (e .call) r (h .held)) t) q in
       absurd (not-both (rw gone) (stage-occupied (sideAt p) g))
@@ -170,11 +171,11 @@ module _ {p : ℕ} {r : Record} {e : Event} where
   pub ends-spent : {a : Answer} {s : Record} → Turned p r e a s → markBy (ruleOf (e .kind)) (a .state) ≡ ends → r .state ≡ HandedOver → eqb (e .kind) 5 ≡ false
   ends-spent (opened d o) m q = no-result o
   ends-spent (carried k g n w h t) m q = absurd (goes≢ends (sym (on-mark h g) ∙ m))
-  ends-spent (closed k w h t) m q = by (eqb (e .kind) 5) refl
+  ends-spent (closed k first second h t) m q = by (eqb (e .kind) 5) refl
     where
       by : (b : Bool) → eqb (e .kind) 5 ≡ b → b ≡ false
       by false f = refl
       by true f =
           let same : k ≡ PickupResult = one-signal (h .rule) (result-rule (e .kind) f) in
-          let result : turnOn PickupResult (sideAt p) r e ≡ Freed w = rw same at t in
+          let result : turnOn PickupResult (sideAt p) r e ≡ Freed first second = rw same at t in
           absurd (let z : _≡_ {A = ℕ} 0 1 = cc (rw q at result) in omega arith)

@@ -15,6 +15,7 @@ use Rattle.events.specs.declared.rule.Rule.{Rule}
 use Rattle.events.specs.declared.rule.Rule.the-variants.{Start, On}
 use Rattle.events.specs.declared.rule.Signal.the-variants.{PickRequest, PickupResult}
 use Rattle.events.specs.Rule.{ruleOf}
+use Rattle.events.specs.Reply.{replies, RepliesOnce}
 use Rattle.step.specs.Edges.{event}
 use Rattle.stays.specs.Stays.{Done, Stays, Every, none, run, stays, allStays, stayByStay, Rearranges, SameEvents, OneResult}
 use Rattle.stays.specs.ParkTable.{machine}
@@ -86,7 +87,7 @@ pub record Ended (xs : List Act) : Type 0 where
 abbrev pub EachStay : Type 0
 EachStay = (es : List Event) → Every Ended (staysOf es .ended) × Every (λ s. (call : List ℕ) × Runs (placeAt (s .at)) call (s .events)) (staysOf es .running)
 
--- ---- (e): who is told that the call is picked up
+-- ---- (e): who is told how a pickrequ came out
 
 -- this is the connection of the last pickrequ among the events
 pub data LastRequest : List Act → Connection → Type 0 where
@@ -98,9 +99,12 @@ abbrev pub stateAfter : ℕ → List Act → ℕ
 stateAfter state [] = state
 stateAfter state (x ∷ xs) = stateAfter (x .answer .state) xs
 
--- a result in state 4 is answered by message 5, on the connection of the last pickrequ before it in the stay
-abbrev pub TellsRequester : List Act → Act → Type 0
-TellsRequester before x = Is (On PickupResult) x → stateAfter 0 before ≡ 4 → (x .answer .message ≡ 5) × LastRequest before (x .answer .connection)
+-- any event in state 4 sends just one message 5 or 6, on the connection of the last pickrequ before it in the stay, and a result sends 5; an
+-- event in another state sends neither
+pub record TellsRequester (before : List Act) (x : Act) : Type 0 where
+  pub once : stateAfter 0 before ≡ 4 → (c : Connection) × LastRequest before c × RepliesOnce c (x .answer .first) (x .answer .second)
+  pub result : stateAfter 0 before ≡ 4 → Is (On PickupResult) x → x .answer .first .message ≡ 5
+  pub silent : (stateAfter 0 before ≡ 4 → ⊥) → replies (x .answer .first) (x .answer .second) ≡ 0
 
 -- so does every event, each with those before it
 abbrev pub AllTell : List Act → List Act → Type 0

@@ -1,16 +1,15 @@
 -- The promises of `specs/Promises.antt`, each by the four cases of `Stepped`.
 -- Assumes nothing.
 use mathlib.Core.Path.{_≡_, refl, sym, ap, ap₂, _∙_}
-use mathlib.Core.Bool.{Bool, true, false, cond, not, _&&_, true≢false, false≢true}
+use mathlib.Core.Bool.{Bool, true, false, cond, not, _&&_, true≢false}
 use mathlib.Core.List.{List}
 use mathlib.Core.Logic.{_⊎_, inl, inr, ⊎-elim}
 use Prim.Native.Nat.{ℕ, _+_, _<_, _≤_, _%_}
 use native.Mathlib.Omega.{arith}
 use lib.Dec.{eqb, ltb}
 use lib.ListN.{length}
-use borrow.Author.Tests.{lt-ltb, le-ltb, eqb-true, eq-eqb}
+use borrow.Author.Tests.{lt-ltb, le-ltb}
 use Rattle.laws.proofs.Bools.{never, not-both}
-use Rattle.table.specs.declared.State.{State}
 use Rattle.table.specs.declared.State.the-variants.{Free, RemoteRequested}
 use Rattle.table.specs.declared.Side.{Side}
 use Rattle.table.specs.declared.Side.the-variants.{Position, Line}
@@ -18,8 +17,7 @@ use Rattle.table.specs.declared.Record.{Record}
 use Rattle.table.specs.declared.Table.{Table}
 use Rattle.table.specs.declared.Found.{Found}
 use Rattle.table.specs.declared.Found.the-variants.{At, Nothing}
-use Rattle.table.specs.Places.{stateNumber, isFree, sideOf, sideAt, placeAt, noInvoke, noConnection, freeRecord, recordAt}
-use Rattle.table.specs.Timers.{startedSet}
+use Rattle.table.specs.Places.{stateNumber, isFree, sideAt, placeAt, noInvoke, freeRecord, recordAt}
 use Rattle.table.specs.Search.{holds, findCall}
 use Rattle.table.specs.Sound.{isSound, fitsSide, Sound}
 use Rattle.table.proofs.Calls.{holds-same, holds-occupied, occupied-holds}
@@ -33,24 +31,24 @@ use Rattle.events.specs.declared.rule.Rule.the-variants.{Start, On, Unknown}
 use Rattle.events.specs.declared.rule.Signal.{Signal}
 use Rattle.events.specs.declared.rule.Signal.the-variants.{LocalPickup, PickRequest, PickupResult, PickupError, ErrorInRelease, Release, Answered, Expiry}
 use Rattle.events.specs.declared.message.Message.{Message}
-use Rattle.events.specs.declared.message.Message.the-variants.{NoMessage, PickResult, PickError}
-use Rattle.events.specs.declared.message.ErrorValue.the-variants.{Undefined}
+use Rattle.events.specs.declared.message.Message.the-variants.{NoMessage, PickResult}
 use Rattle.events.specs.declared.refusal.Refusal.{Refusal}
 use Rattle.events.specs.declared.refusal.Refusal.the-variants.{UnknownKind, ChoiceOrTimer, CallHeld, SideFull, CallNotHeld, NothingWaits, PickupPending, StateUnfit, NotOutstanding, TimerNotRunning, TableUnsound}
 use Rattle.events.specs.declared.turn.Stage.{Stage}
-use Rattle.events.specs.declared.turn.Stage.the-variants.{Waits, AskedHere, AskedFrom, Taken}
+use Rattle.events.specs.declared.turn.Stage.the-variants.{Waits, Taken}
 use Rattle.events.specs.declared.turn.Outcome.{Outcome}
 use Rattle.events.specs.declared.turn.Outcome.the-variants.{Refused, Freed, Becomes}
 use Rattle.step.specs.declared.aim.Aim.{Aim}
 use Rattle.step.specs.declared.aim.Aim.the-variants.{To, Nowhere}
 use Rattle.events.specs.Rule.{ruleOf}
 use Rattle.events.specs.Refusal.{refusalNumber}
-use Rattle.events.specs.Turn.{heldRecord, stageOf, greeting, isOutstanding, ifOutstanding, failedInRelease, turnOn, turn}
+use Rattle.events.specs.Turn.{heldRecord, stageOf, greeting, isOutstanding, ifOutstanding, toPicker, turnOn, turn}
 use Rattle.step.specs.Aim.{aim, aimAt, aimNamed, aimOn, nextWaiting}
 use Rattle.events.specs.Act.{stayCall}
+use Rattle.events.proofs.Released.{error-in-release}
 use Rattle.step.specs.Step.{refusedBy, done, settled, carriedOut, stepOf}
-use Rattle.step.specs.Promises.{Full, IsAccepted, KeepsSound, RefusalKeeps, Move, starts, AtOnePlace, AcceptedAtOnePlace, one-if, T3RunsThrough, namesCall, byName, MatchedByCall, NotHeldIs5, StartAnswersItsCall, onlyNamed, IgnoresOtherFields, ReleaseFrees, RemoteResultHolds}
-use Rattle.step.proofs.Aims.{Room, aim-on, aim-lost, free-number}
+use Rattle.step.specs.Promises.{IsAccepted, KeepsSound, RefusalKeeps, Move, starts, AtOnePlace, AcceptedAtOnePlace, one-if, T3RunsThrough, namesCall, byName, MatchedByCall, NotHeldIs5, StartAnswersItsCall, onlyNamed, IgnoresOtherFields, ReleaseFrees, RemoteResultHolds}
+use Rattle.step.proofs.Aims.{aim-on, aim-lost, free-number}
 use Rattle.step.proofs.Turns.{stage-fits, free-fits, waiting-offered, stage-occupied, stage-connection, move-end, move-on}
 use Rattle.step.proofs.Timers.{t3-started}
 use Rattle.step.proofs.Stepped.{Reached, Stepped, kept, begun, ended, went-on, refused-stays, stepped}
@@ -96,7 +94,7 @@ module _ (t : Table) (size : length (t .places) ≡ 96) (e : Event) where
   full : (s : Step) → Stepped t size e s → length (s .table .places) ≡ 96
   full s (kept w) = size
   full s (begun d i sound rule room) = put-size t size i (room .inside) _
-  full s (ended k i m at turn) = put-size t size i (at .inside) _
+  full s (ended k i first second at turn) = put-size t size i (at .inside) _
   full s (went-on k i g n m at turn) = put-size t size i (at .inside) _
 
   -- a record of a stage fits, is tidy, and keeps the table sound if nobody else holds its call
@@ -114,7 +112,7 @@ module _ (t : Table) (size : length (t .places) ≡ 96) (e : Event) where
   sound-after s (begun d i sound rule room) S =
       stage-sound S i (room .inside) Waits (e .call) noInvoke (λ j hj ne fj c.
       not-both (occupied-holds (e .call) (recordAt t j) fj (sym c)) (none-passes t size (λ k. holds (e .call)) (room .absent) j hj))
-  sound-after s (ended k i m at turn) S =
+  sound-after s (ended k i first second at turn) S =
       put-sound t size i (at .inside) freeRecord S (free-fits (sideAt i)) (λ f. refl) (λ f. refl) (λ j hj ne f fj c. true≢false f)
   sound-after s (went-on k i g n m at turn) S =
       stage-sound S i (at .inside) g (recordAt t i .call) n (λ j hj ne fj c.
@@ -123,16 +121,16 @@ module _ (t : Table) (size : length (t .places) ≡ 96) (e : Event) where
   table-kept : (s : Step) → Stepped t size e s → (s .answer .number ≡ 0 → ⊥) → s .table ≡ t
   table-kept s (kept w) h = refl
   table-kept s (begun d i sound rule room) h = absurd (h refl)
-  table-kept s (ended k i m at turn) h = absurd (h refl)
+  table-kept s (ended k i first second at turn) h = absurd (h refl)
   table-kept s (went-on k i g n m at turn) h = absurd (h refl)
 
   -- ---- an accepted event
 
   -- a new record at an index, with the call and the move that are said of it
-  one-place : (i : ℕ) (new : Record) (call : List ℕ) (m : Message) → i < 96 → Move (recordAt t i .state) (new .state)
+  one-place : (i : ℕ) (new : Record) (call : List ℕ) (first second : Message) → i < 96 → Move (recordAt t i .state) (new .state)
       → (isFree (recordAt t i .state) ≡ false → recordAt t i .call ≡ call) → (isFree (new .state) ≡ false → new .call ≡ call)
-      → AtOnePlace t (done t i new call m)
-  one-place i new call m inside move before after =
+      → AtOnePlace t (done t i new call first second)
+  one-place i new call first second inside move before after =
       let here : recordAt (put t i new) i ≡ new = put-here t size i inside new in
       record {
         index = i;
@@ -151,12 +149,12 @@ module _ (t : Table) (size : length (t .places) ≡ 96) (e : Event) where
   at-one-place s (kept w) h = absurd (refused-not-0 w h)
   at-one-place s (begun d i sound rule room) h =
       let was : recordAt t i .state ≡ Free = free-state (recordAt t i .state) (room .vacant) in
-      one-place i (heldRecord (sideAt i) Waits (e .call) noInvoke) (e .call) (greeting d) (room .inside)
+      one-place i (heldRecord (sideAt i) Waits (e .call) noInvoke) (e .call) (greeting d) NoMessage (room .inside)
       (rw was (starts (waiting-offered (sideAt i)))) (λ f. absurd (not-both (room .vacant) f)) (λ f. refl)
-  at-one-place s (ended k i m at turn) h =
-      one-place i freeRecord (recordAt t i .call) m (at .inside) (move-end (recordAt t i .state) (at .occupied)) (λ f. refl) (λ f. absurd (true≢false f))
+  at-one-place s (ended k i first second at turn) h =
+      one-place i freeRecord (recordAt t i .call) first second (at .inside) (move-end (recordAt t i .state) (at .occupied)) (λ f. refl) (λ f. absurd (true≢false f))
   at-one-place s (went-on k i g n m at turn) h =
-      one-place i (heldRecord (sideAt i) g (recordAt t i .call) n) (recordAt t i .call) m (at .inside)
+      one-place i (heldRecord (sideAt i) g (recordAt t i .call) n) (recordAt t i .call) m NoMessage (at .inside)
       (move-on k (sideAt i) (recordAt t i) e g n m (at .occupied) turn) (λ f. refl) (λ f. refl)
 
   -- ---- T3
@@ -169,10 +167,10 @@ module _ (t : Table) (size : length (t .places) ≡ 96) (e : Event) where
       rw (in-table, le-ltb (i + 1) 1 (omega arith), lt-ltb (i + 1) 65 (omega arith))
 
   -- what is said of the T3 bits, of a new record at a position
-  t3-bits : (i : ℕ) (new : Record) (call : List ℕ) (m : Message) → isSound t ≡ true → i < 96 → placeAt i .0 ≤ 64 → fitsSide (sideAt i) (new .state) ≡ true
-      → (done t i new call m .answer .started % 2 ≡ one-if (isFree (recordAt t i .state) && not (isFree (new .state))))
-      × (done t i new call m .answer .stopped % 2 ≡ one-if (isFree (new .state) && not (isFree (recordAt t i .state))))
-  t3-bits i new call m sound inside low fit =
+  t3-bits : (i : ℕ) (new : Record) (call : List ℕ) (first second : Message) → isSound t ≡ true → i < 96 → placeAt i .0 ≤ 64 → fitsSide (sideAt i) (new .state) ≡ true
+      → (done t i new call first second .answer .started % 2 ≡ one-if (isFree (recordAt t i .state) && not (isFree (new .state))))
+      × (done t i new call first second .answer .stopped % 2 ≡ one-if (isFree (new .state) && not (isFree (recordAt t i .state))))
+  t3-bits i new call first second sound inside low fit =
       let position = low-side i inside low in
       let was : fitsSide Position (recordAt t i .state) ≡ true = rw position at (facts-of-test t size sound .fits i inside) in
       let is : fitsSide Position (new .state) ≡ true = rw position at fit in
@@ -185,19 +183,19 @@ module _ (t : Table) (size : length (t .places) ≡ 96) (e : Event) where
   t3 s (kept w) h low = absurd (refused-not-0 w h)
   t3 s (begun d i sound rule room) h low =
       let new : Record = heldRecord (sideAt i) Waits (e .call) noInvoke in
-      let b = t3-bits i new (e .call) (greeting d) sound (room .inside) low (stage-fits (sideAt i) Waits) in
+      let b = t3-bits i new (e .call) (greeting d) NoMessage sound (room .inside) low (stage-fits (sideAt i) Waits) in
       let busy = stage-occupied (sideAt i) Waits in
       let side : d ≡ Position = sym (room .side) ∙ low-side i (room .inside) low in
       let kind : eqb (e .kind) 1 ≡ true = sym (parks-kind (e .kind)) ∙ rw (rule, side) in
       let zero : eqb (stateNumber (new .state)) 0 ≡ false = sym (free-number (new .state)) ∙ busy in
       (b .0 ∙ rw (room .vacant, busy, kind), b .1 ∙ rw (busy, zero))
-  t3 s (ended k i m at turn) h low =
-      let b = t3-bits i freeRecord (recordAt t i .call) m (at .sound) (at .inside) low (free-fits (sideAt i)) in
+  t3 s (ended k i first second at turn) h low =
+      let b = t3-bits i freeRecord (recordAt t i .call) first second (at .sound) (at .inside) low (free-fits (sideAt i)) in
       let kind : eqb (e .kind) 1 ≡ false = sym (parks-kind (e .kind)) ∙ rw (at .rule) in
       (b .0 ∙ rw (at .occupied, kind), b .1 ∙ rw (at .occupied))
   t3 s (went-on k i g n m at turn) h low =
       let new : Record = heldRecord (sideAt i) g (recordAt t i .call) n in
-      let b = t3-bits i new (recordAt t i .call) m (at .sound) (at .inside) low (stage-fits (sideAt i) g) in
+      let b = t3-bits i new (recordAt t i .call) m NoMessage (at .sound) (at .inside) low (stage-fits (sideAt i) g) in
       let busy = stage-occupied (sideAt i) g in
       let kind : eqb (e .kind) 1 ≡ false = sym (parks-kind (e .kind)) ∙ rw (at .rule) in
       let zero : eqb (stateNumber (new .state)) 0 ≡ false = sym (free-number (new .state)) ∙ busy in
@@ -220,8 +218,8 @@ module _ (t : Table) (size : length (t .places) ≡ 96) (e : Event) where
   abbrev Matched : Step → Type 0
   Matched s = (x : AtOnePlace t s) → (holds (e .call) (recordAt t (x .index)) ≡ true) × (s .answer .call ≡ e .call)
 
-  matched-at : (k : Signal) (i : ℕ) (new : Record) (m : Message) → Reached t e k i → byName e ≡ true → Matched (done t i new (recordAt t i .call) m)
-  matched-at k i new m at named x =
+  matched-at : (k : Signal) (i : ℕ) (new : Record) (first second : Message) → Reached t e k i → byName e ≡ true → Matched (done t i new (recordAt t i .call) first second)
+  matched-at k i new first second at named x =
       let same : i ≡ x .index = same-index i (x .index) (at .inside) (x .inside) (x .place) in
       let held = reached-call k i at named in
       (rw same at held, holds-same (e .call) (recordAt t i) held)
@@ -229,13 +227,13 @@ module _ (t : Table) (size : length (t .places) ≡ 96) (e : Event) where
   matched : (s : Step) → Stepped t size e s → s .answer .number ≡ 0 → byName e ≡ true → Matched s
   matched s (kept w) h named = absurd (refused-not-0 w h)
   matched s (begun d i sound rule room) h named = never (rw rule at named)
-  matched s (ended k i m at turn) h named = matched-at k i freeRecord m at named
-  matched s (went-on k i g n m at turn) h named = matched-at k i (heldRecord (sideAt i) g (recordAt t i .call) n) m at named
+  matched s (ended k i first second at turn) h named = matched-at k i freeRecord first second at named
+  matched s (went-on k i g n m at turn) h named = matched-at k i (heldRecord (sideAt i) g (recordAt t i .call) n) m NoMessage at named
 
   own-call : (d : Side) → ruleOf (e .kind) ≡ Start d → (s : Step) → Stepped t size e s → s .answer .number ≡ 0 → s .answer .call ≡ e .call
   own-call d start s (kept w) h = absurd (refused-not-0 w h)
   own-call d start s (begun b i sound rule room) h = refl
-  own-call d start s (ended k i m at turn) h = absurd (let z : _≡_ {A = ℕ} 0 1 = cc (sym start ∙ at .rule) in omega arith)
+  own-call d start s (ended k i first second at turn) h = absurd (let z : _≡_ {A = ℕ} 0 1 = cc (sym start ∙ at .rule) in omega arith)
   own-call d start s (went-on k i g n m at turn) h = absurd (let z : _≡_ {A = ℕ} 0 1 = cc (sym start ∙ at .rule) in omega arith)
 
   lost-is-5 : byName e ≡ true → ((j : ℕ) → j < 96 → holds (e .call) (recordAt t j) ≡ false) → isSound t ≡ true → stepOf t e .answer .number ≡ 5
@@ -250,14 +248,14 @@ module _ (t : Table) (size : length (t .places) ≡ 96) (e : Event) where
 
   module _ (sound : isSound t ≡ true) (j : ℕ) (inside : j < 96) (held : holds (e .call) (recordAt t j) ≡ true) where
     Freeing : Signal → Type 0
-    Freeing k = (r : Record) (a : Side) → (m : Message) × (turnOn k a r e ≡ Freed m)
+    Freeing k = (r : Record) (a : Side) → (m : Message) × (turnOn k a r e ≡ Freed m NoMessage)
 
     frees : (k : Signal) → ruleOf (e .kind) ≡ On k → aimOn (nextWaiting t) k t e ≡ aimNamed t e → Freeing k
         → IsAccepted t e × (stepOf t e .answer .state ≡ 0)
     unfolding Freeing
     frees k rule named freeing = rw (sound, rule, named) (by (findCall t (e .call)) refl)
       where
-        at : (i : ℕ) → isFree (recordAt t i .state) ≡ false → (u : Outcome) → turnOn k (sideAt i) (recordAt t i) e ≡ u → (m : Message) → u ≡ Freed m
+        at : (i : ℕ) → isFree (recordAt t i .state) ≡ false → (u : Outcome) → turnOn k (sideAt i) (recordAt t i) e ≡ u → (m : Message) → u ≡ Freed m NoMessage
             → (carriedOut (On k) t e (To i) .answer .number ≡ 0) × (carriedOut (On k) t e (To i) .answer .state ≡ 0)
         at i busy u q m f = rw (busy, q, f) (refl, refl)
 
@@ -271,16 +269,9 @@ module _ (t : Table) (size : length (t .places) ≡ 96) (e : Event) where
 
     release-freeing : (e .kind ≡ 7) ⊎ (e .kind ≡ 8) → IsAccepted t e × (stepOf t e .answer .state ≡ 0)
     unfolding Freeing
-    release-freeing (inl q) = frees ErrorInRelease (rw q) refl (λ r a. by (stageOf r) (isOutstanding r (e .invoke)))
-      where
-        by : (s : Stage) (right : Bool) → (m : Message) × (failedInRelease s right ≡ Freed m)
-        by Waits right = (NoMessage, refl)
-        by AskedHere true = (NoMessage, refl)
-        by AskedHere false = (NoMessage, refl)
-        by (AskedFrom c) true = (PickError c Undefined, refl)
-        by (AskedFrom c) false = (NoMessage, refl)
-        by Taken right = (NoMessage, refl)
-    release-freeing (inr q) = frees Release (rw q) refl (λ r a. (NoMessage, refl))
+    release-freeing (inl q) =
+        frees ErrorInRelease (rw q) refl (λ r a. (toPicker (stageOf r), error-in-release (stageOf r) (isOutstanding r (e .invoke))))
+    release-freeing (inr q) = frees Release (rw q) refl (λ r a. (toPicker (stageOf r), refl))
 
   -- the result's signal in state 4
   module _ (kind : e .kind ≡ 5) where
@@ -299,16 +290,16 @@ module _ (t : Table) (size : length (t .places) ≡ 96) (e : Event) where
 
     abbrev Holding : Step → Type 0
     Holding s = (x : AtOnePlace t s) → recordAt t (x .index) .state ≡ RemoteRequested
-        → (s .answer .state ≡ 5) × (s .answer .message ≡ 5) × (s .answer .connection ≡ recordAt t (x .index) .connection)
+        → (s .answer .state ≡ 5) × (s .answer .first .message ≡ 5) × (s .answer .first .connection ≡ recordAt t (x .index) .connection)
 
     holding : (s : Step) → Stepped t size e s → s .answer .number ≡ 0 → Holding s
     holding s (kept w) h x q = absurd (refused-not-0 w h)
     holding s (begun d i sound rule room) h x q =
         let five : ruleOf (e .kind) ≡ On PickupResult = rw kind in absurd (let z : _≡_ {A = ℕ} 0 1 = cc (sym rule ∙ five) in omega arith)
-    holding s (ended k i m at turn) h x q =
+    holding s (ended k i first second at turn) h x q =
         let same : x .index ≡ i = sym (same-index i (x .index) (at .inside) (x .inside) (x .place)) in
         let k-is = result-signal k i at in
-        let t5 : turnOn PickupResult (sideAt i) (recordAt t i) e ≡ Freed m = rw k-is at turn in
+        let t5 : turnOn PickupResult (sideAt i) (recordAt t i) e ≡ Freed first second = rw k-is at turn in
         ⊎-elim (λ g. absurd (let z : _≡_ {A = ℕ} 0 1 = cc (sym t5 ∙ g) in omega arith)) (λ g. absurd (let z : _≡_ {A = ℕ} 0 1 = cc (sym t5 ∙ g) in omega arith))
         (remote-turn (recordAt t i) (sideAt i) (rw same at q))
     holding s (went-on k i g n m at turn) h x q =
@@ -404,7 +395,7 @@ module _ (e : Event) where
 
   same-settled : (t : Table) (k : Rule) → ruleOf (e .kind) ≡ k → (i : ℕ) (call : List ℕ) (u : Outcome) → settled t (onlyNamed k e) i call u ≡ settled t e i call u
   same-settled t k q i call (Refused w) = sym (refused-stays t (onlyNamed k e) i call w) ∙ same-refusal t k q w ∙ refused-stays t e i call w
-  same-settled t k q i call (Freed m) = refl
+  same-settled t k q i call (Freed first second) = refl
   same-settled t k q i call (Becomes g n m) = refl
 
   same-carried : (t : Table) (k : Rule) → ruleOf (e .kind) ≡ k → (a : Aim) → carriedOut k t (onlyNamed k e) a ≡ carriedOut k t e a

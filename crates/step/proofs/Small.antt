@@ -23,11 +23,11 @@ use Rattle.events.specs.declared.refusal.Refusal.the-variants.{UnknownKind, Cho
 use Rattle.events.specs.declared.turn.Stage.the-variants.{Waits}
 use Rattle.events.specs.Rule.{ruleOf}
 use Rattle.events.specs.Turn.{heldRecord, greeting}
-use Rattle.events.specs.Message.{messageNumber, messageError}
+use Rattle.events.specs.Message.{messageNumber, messageError, sent}
 use Rattle.events.specs.Refusal.{refusalNumber, refusalMessage}
 use Rattle.events.specs.Answers.{saying}
 use Rattle.step.specs.Step.{done, stepOf}
-use Rattle.step.specs.Promises.{Small, AnswersSmall}
+use Rattle.step.specs.Promises.{SmallSent, Small, AnswersSmall}
 use Rattle.step.proofs.Stepped.{Stepped, kept, begun, ended, went-on, stepped}
 
 refusal-below : (w : Refusal) → refusalNumber w ≤ 25
@@ -74,26 +74,29 @@ place-below i = by (ltb i 96) refl
     by true h = omega (arith, ltb-true i 96 h)
     by false h = lit≤ tt
 
+sent-small : (m : Message) → SmallSent (sent m)
+sent-small m = record { message = message-below m; error = error-below m }
+
 pub saying-small : (n : ℕ) (m : Message) → n ≤ 25 → Small (saying n m)
 saying-small n m h = record {
   number = h;
   place = lit≤ tt;
   state = lit≤ tt;
-  message = message-below m;
-  error = error-below m;
+  first = sent-small m;
   started = lit≤ tt;
   stopped = lit≤ tt;
+  second = sent-small NoMessage;
 }
 
-done-small : (t : Table) (i : ℕ) (new : Record) (call : List ℕ) (m : Message) → Small (done t i new call m .answer)
-done-small t i new call m = record {
+done-small : (t : Table) (i : ℕ) (new : Record) (call : List ℕ) (first second : Message) → Small (done t i new call first second .answer)
+done-small t i new call first second = record {
   number = lit≤ tt;
   place = place-below i;
   state = omega (arith, state-below (new .state));
-  message = message-below m;
-  error = error-below m;
+  first = sent-small first;
   started = started-below (sideAt i) (recordAt t i .state) (new .state);
   stopped = started-below (sideAt i) (new .state) (recordAt t i .state);
+  second = sent-small second;
 }
 
 pub answers-small : AnswersSmall
@@ -101,6 +104,6 @@ answers-small t e size = by (stepOf t e) (stepped t size e)
   where
     by : (s : Step) → Stepped t size e s → Small (s .answer)
     by s (kept w) = saying-small (refusalNumber w) (refusalMessage (ruleOf (e .kind)) w (e .connection)) (refusal-below w)
-    by s (begun d i sound rule room) = done-small t i (heldRecord (sideAt i) Waits (e .call) noInvoke) (e .call) (greeting d)
-    by s (ended k i m at turn) = done-small t i freeRecord (recordAt t i .call) m
-    by s (went-on k i g n m at turn) = done-small t i (heldRecord (sideAt i) g (recordAt t i .call) n) (recordAt t i .call) m
+    by s (begun d i sound rule room) = done-small t i (heldRecord (sideAt i) Waits (e .call) noInvoke) (e .call) (greeting d) NoMessage
+    by s (ended k i first second at turn) = done-small t i freeRecord (recordAt t i .call) first second
+    by s (went-on k i g n m at turn) = done-small t i (heldRecord (sideAt i) g (recordAt t i .call) n) (recordAt t i .call) m NoMessage

@@ -1,7 +1,7 @@
 -- Every step, seen as what it is: a refusal that keeps the table, a new stay at a free place, the end of a stay, or a stay that
 -- goes on. All that is promised of a step goes by these four cases.
 -- Assumes nothing.
-use mathlib.Core.Path.{_≡_, refl, sym, ap, _∙_, subst}
+use mathlib.Core.Path.{_≡_, refl, sym, subst}
 use mathlib.Core.Bool.{Bool, true, false, cond}
 use mathlib.Core.List.{List}
 use Prim.Native.Nat.{ℕ, _<_}
@@ -19,6 +19,7 @@ use Rattle.events.specs.declared.rule.Rule.{Rule}
 use Rattle.events.specs.declared.rule.Rule.the-variants.{Start, On, Unknown}
 use Rattle.events.specs.declared.rule.Signal.{Signal}
 use Rattle.events.specs.declared.message.Message.{Message}
+use Rattle.events.specs.declared.message.Message.the-variants.{NoMessage}
 use Rattle.events.specs.declared.refusal.Refusal.{Refusal}
 use Rattle.events.specs.declared.refusal.Refusal.the-variants.{CallNotHeld, TableUnsound}
 use Rattle.events.specs.declared.turn.Stage.{Stage}
@@ -45,11 +46,11 @@ pub record Reached (t : Table) (e : Event) (s : Signal) (i : ℕ) : Type 0 where
 pub data Stepped (t : Table) (size : length (t .places) ≡ 96) (e : Event) : Step → Type 0 where
   kept : (w : Refusal) → Stepped t size e (refusedBy t e w)
   begun : (d : Side) (i : ℕ) → isSound t ≡ true → ruleOf (e .kind) ≡ Start d → Room t size d (e .call) i
-      → Stepped t size e (done t i (heldRecord (sideAt i) Waits (e .call) noInvoke) (e .call) (greeting d))
-  ended : (s : Signal) (i : ℕ) (m : Message) → Reached t e s i → turnOn s (sideAt i) (recordAt t i) e ≡ Freed m
-      → Stepped t size e (done t i freeRecord (recordAt t i .call) m)
+      → Stepped t size e (done t i (heldRecord (sideAt i) Waits (e .call) noInvoke) (e .call) (greeting d) NoMessage)
+  ended : (s : Signal) (i : ℕ) (first second : Message) → Reached t e s i → turnOn s (sideAt i) (recordAt t i) e ≡ Freed first second
+      → Stepped t size e (done t i freeRecord (recordAt t i .call) first second)
   went-on : (s : Signal) (i : ℕ) (g : Stage) (n : Invoke) (m : Message) → Reached t e s i → turnOn s (sideAt i) (recordAt t i) e ≡ Becomes g n m
-      → Stepped t size e (done t i (heldRecord (sideAt i) g (recordAt t i .call) n) (recordAt t i .call) m)
+      → Stepped t size e (done t i (heldRecord (sideAt i) g (recordAt t i .call) n) (recordAt t i .call) m NoMessage)
 
 -- a refusal leaves the record as it was, and so the table
 pub refused-stays : (t : Table) (e : Event) (i : ℕ) (call : List ℕ) (w : Refusal) → refusedBy t e w ≡ settled t e i call (Refused w)
@@ -62,7 +63,7 @@ module _ (t : Table) (size : length (t .places) ≡ 96) (e : Event) where
 
     outcome : (u : Outcome) → isFree (recordAt t i .state) ≡ false → turnOn s (sideAt i) (recordAt t i) e ≡ u → Stepped t size e (settled t e i (recordAt t i .call) u)
     outcome (Refused w) f q = stays w
-    outcome (Freed m) f q = ended s i m (reached f) q
+    outcome (Freed first second) f q = ended s i first second (reached f) q
     outcome (Becomes g n m) f q = went-on s i g n m (reached f) q
 
     on-held : (b : Bool) → isFree (recordAt t i .state) ≡ b

@@ -1,11 +1,10 @@
 -- One record: what the record of a stage is like, and that a turn which goes on is one of the five moves.
 -- Assumes nothing.
-use mathlib.Core.Path.{_≡_, refl, sym, ap, _∙_}
+use mathlib.Core.Path.{_≡_, refl}
 use mathlib.Core.Bool.{Bool, true, false, cond, true≢false}
 use Prim.Native.Nat.{ℕ}
 use native.Mathlib.Omega.{arith}
 use lib.Dec.{eqb}
-use Rattle.table.specs.declared.Connection.{Connection}
 use Rattle.table.specs.declared.Invoke.{Invoke}
 use Rattle.table.specs.declared.State.{State}
 use Rattle.table.specs.declared.State.the-variants.{Free, ParkWaiting, LineWaiting, Requested, RemoteRequested, HandedOver}
@@ -19,13 +18,11 @@ use Rattle.events.specs.declared.Event.{Event}
 use Rattle.events.specs.declared.rule.Signal.{Signal}
 use Rattle.events.specs.declared.rule.Signal.the-variants.{LocalPickup, PickRequest, PickupResult, PickupError, ErrorInRelease, Release, Answered, Expiry}
 use Rattle.events.specs.declared.message.Message.{Message}
-use Rattle.events.specs.declared.message.Message.the-variants.{ReleaseComplete}
 use Rattle.events.specs.declared.refusal.Refusal.the-variants.{StateUnfit, TimerNotRunning}
 use Rattle.events.specs.declared.turn.Stage.{Stage}
 use Rattle.events.specs.declared.turn.Stage.the-variants.{Waits, AskedHere, AskedFrom, Taken}
-use Rattle.events.specs.declared.turn.Outcome.{Outcome}
-use Rattle.events.specs.declared.turn.Outcome.the-variants.{Refused, Freed, Becomes}
-use Rattle.events.specs.Turn.{stateAt, connectionAt, runs, turnOn}
+use Rattle.events.specs.declared.turn.Outcome.the-variants.{Refused, Becomes}
+use Rattle.events.specs.Turn.{stateAt, connectionAt, runs, timedOut, turnOn}
 use Rattle.step.specs.Promises.{offered, Move, goes-on, hands-over, ends, is-left}
 
 pub stage-fits : (a : Side) (g : Stage) → fitsSide a (stateAt a g) ≡ true
@@ -88,7 +85,7 @@ taken-ends Release a r e g n m q h = let z : _≡_ {A = ℕ} 0 1 = cc h in omega
 taken-ends Answered a r e g n m q h = let w = rw q at h in let z : _≡_ {A = ℕ} 0 1 = cc w in omega arith
 taken-ends Expiry a r e g n m q h = by (runs (timerSet a HandedOver) (e .timer)) (eqb (e .timer) 9) (rw q at h)
   where
-    by : (x y : Bool) → cond x (cond y (Refused StateUnfit) (Freed ReleaseComplete)) (Refused TimerNotRunning) ≡ Becomes g n m → ⊥
+    by : (x y : Bool) → cond x (cond y (Refused StateUnfit) (timedOut Taken)) (Refused TimerNotRunning) ≡ Becomes g n m → ⊥
     by true true w = let z : _≡_ {A = ℕ} 0 1 = cc in omega arith
     by true false w = let z : _≡_ {A = ℕ} 0 1 = cc in omega arith
     by false y w = let z : _≡_ {A = ℕ} 0 1 = cc in omega arith

@@ -1,5 +1,5 @@
--- The twelve edges (document 01, "Twelve edges to prove"): each from the table that it names, with the whole answer and the whole
--- table after it, as one list under one statement. `proofs/Edges.antt` computes them from the definitions.
+-- The twelve edges (document 01, "Twelve edges to prove") and, after them, those of document 02's Q-1: each from the table that it names,
+-- with the whole answer and the whole table after it, as one list under one statement. `proofs/Edges.antt` computes them from the definitions.
 -- Assumes nothing.
 use mathlib.Core.Path.{_≡_}
 use mathlib.Core.List.{List, [], _∷_, _++_}
@@ -12,6 +12,7 @@ use Rattle.table.specs.declared.State.the-variants.{ParkWaiting, LineWaiting, R
 use Rattle.table.specs.Places.{noConnection, noCall, freeRecord, emptyTable}
 use Rattle.events.specs.declared.Event.{Event}
 use Rattle.events.specs.declared.Answer.{Answer}
+use Rattle.events.specs.declared.message.Sent.{Sent}
 use Rattle.step.specs.Aim.{indexOf}
 use Rattle.step.specs.Step.{stepOf}
 
@@ -47,19 +48,21 @@ event kind n place invoke timer = record {
   timer = timer;
 }
 
--- the answer line's ten fields, in its order
-abbrev pub answer : ℕ → List ℕ → ℕ → ℕ → ℕ → ℕ → ℕ → ℕ → ℕ → ℕ → Answer
-answer number call place state message connection invoke error started stopped = record {
+-- a message's four fields
+abbrev pub says : ℕ → ℕ → ℕ → ℕ → Sent
+says message connection invoke error = record { message = message; connection = record { 0 = connection }; invoke = record { 0 = invoke }; error = error }
+
+-- the answer line's fourteen fields, in its order
+abbrev pub answer : ℕ → List ℕ → ℕ → ℕ → ℕ → ℕ → ℕ → ℕ → ℕ → ℕ → ℕ → ℕ → ℕ → ℕ → Answer
+answer number call place state message connection invoke error started stopped message2 connection2 invoke2 error2 = record {
   number = number;
   call = call;
   place = record { 0 = place };
   state = state;
-  message = message;
-  connection = record { 0 = connection };
-  invoke = record { 0 = invoke };
-  error = error;
+  first = says message connection invoke error;
   started = started;
   stopped = stopped;
+  second = says message2 connection2 invoke2 error2;
 }
 
 pub record Edge : Type 0 where
@@ -78,30 +81,39 @@ refusal t e a = edge t e t a
 abbrev pub edges : List Edge
 edges =
     -- 1. Empty table, park proposing 64: place 64.
-    edge emptyTable (event 1 1 64 0 0) (with 64 (held ParkWaiting 0 0)) (answer 0 (callOf 1) 64 1 1 0 0 0 1 0)
+    edge emptyTable (event 1 1 64 0 0) (with 64 (held ParkWaiting 0 0)) (answer 0 (callOf 1) 64 1 1 0 0 0 1 0 0 0 0 0)
     -- 2. Proposing 65: place 1.
-    ∷ edge emptyTable (event 1 1 65 0 0) (with 1 (held ParkWaiting 0 0)) (answer 0 (callOf 1) 1 1 1 0 0 0 1 0)
+    ∷ edge emptyTable (event 1 1 65 0 0) (with 1 (held ParkWaiting 0 0)) (answer 0 (callOf 1) 1 1 1 0 0 0 1 0 0 0 0 0)
     -- 3. Proposing 0: place 1.
-    ∷ edge emptyTable (event 1 1 0 0 0) (with 1 (held ParkWaiting 0 0)) (answer 0 (callOf 1) 1 1 1 0 0 0 1 0)
+    ∷ edge emptyTable (event 1 1 0 0 0) (with 1 (held ParkWaiting 0 0)) (answer 0 (callOf 1) 1 1 1 0 0 0 1 0 0 0 0 0)
     -- 4. All 64 positions taken: 4.
-    ∷ refusal allTaken (event 1 99 5 0 0) (answer 4 noCall 0 0 2 0 0 1 0 0)
+    ∷ refusal allTaken (event 1 99 5 0 0) (answer 4 noCall 0 0 2 0 0 1 0 0 0 0 0 0)
     -- 5. Same call parked twice: 3, even when all are taken.
-    ∷ refusal (with 1 (held ParkWaiting 0 0)) (event 1 1 5 0 0) (answer 3 noCall 0 0 2 0 0 1 0 0)
-    ∷ refusal allTaken (event 1 1 5 0 0) (answer 3 noCall 0 0 2 0 0 1 0 0)
+    ∷ refusal (with 1 (held ParkWaiting 0 0)) (event 1 1 5 0 0) (answer 3 noCall 0 0 2 0 0 1 0 0 0 0 0 0)
+    ∷ refusal allTaken (event 1 1 5 0 0) (answer 3 noCall 0 0 2 0 0 1 0 0 0 0 0 0)
     -- 6. Alert proposing 64 on the empty table: place 65.
-    ∷ edge emptyTable (event 2 1 64 0 0) (with 65 (held LineWaiting 0 0)) (answer 0 (callOf 1) 65 2 0 0 0 0 0 0)
+    ∷ edge emptyTable (event 2 1 64 0 0) (with 65 (held LineWaiting 0 0)) (answer 0 (callOf 1) 65 2 0 0 0 0 0 0 0 0 0 0)
     -- 7. State 3 at a position, T3 expires: freed, message 7, stopped 3.
-    ∷ edge (with 7 (held Requested 0 1)) (event 10 1 0 0 3) emptyTable (answer 0 (callOf 1) 7 0 7 0 0 0 0 3)
+    ∷ edge (with 7 (held Requested 0 1)) (event 10 1 0 0 3) emptyTable (answer 0 (callOf 1) 7 0 7 0 0 0 0 3 0 0 0 0)
     -- 8. State 4, kind 6, right number: state 1, message 6, stopped 4.
-    ∷ edge (with 7 (held RemoteRequested 900 1)) (event 6 1 0 1 0) (with 7 (held ParkWaiting 0 1)) (answer 0 (callOf 1) 7 1 6 900 0 1 0 4)
+    ∷ edge (with 7 (held RemoteRequested 900 1)) (event 6 1 0 1 0) (with 7 (held ParkWaiting 0 1)) (answer 0 (callOf 1) 7 1 6 900 0 1 0 4 0 0 0 0)
     -- 9. State 5, pickrequ by name: 7, error 2.
-    ∷ refusal (with 7 (held HandedOver 0 1)) (event 4 1 0 0 0) (answer 7 noCall 0 0 6 0 0 2 0 0)
+    ∷ refusal (with 7 (held HandedOver 0 1)) (event 4 1 0 0 0) (answer 7 noCall 0 0 6 0 0 2 0 0 0 0 0 0)
     -- 10. State 1, kind 7: freed.
-    ∷ edge (with 7 (held ParkWaiting 0 1)) (event 7 1 0 0 0) emptyTable (answer 0 (callOf 1) 7 0 0 0 0 0 0 1)
+    ∷ edge (with 7 (held ParkWaiting 0 1)) (event 7 1 0 0 0) emptyTable (answer 0 (callOf 1) 7 0 0 0 0 0 0 1 0 0 0 0)
     -- 11. Count 65,535 in state 1, local pickup: invoke 0.
-    ∷ edge (with 7 (held ParkWaiting 0 65535)) (event 3 1 0 0 0) (with 7 (held Requested 0 0)) (answer 0 (callOf 1) 7 3 3 0 0 0 2 0)
+    ∷ edge (with 7 (held ParkWaiting 0 65535)) (event 3 1 0 0 0) (with 7 (held Requested 0 0)) (answer 0 (callOf 1) 7 3 3 0 0 0 2 0 0 0 0 0)
     -- 12. Line in state 2, expiry of T3: 10.
-    ∷ refusal (with 71 (held LineWaiting 0 0)) (event 10 1 0 0 3) (answer 10 noCall 0 0 0 0 0 0 0 0)
+    ∷ refusal (with 71 (held LineWaiting 0 0)) (event 10 1 0 0 3) (answer 10 noCall 0 0 0 0 0 0 0 0 0 0 0 0)
+    -- Q-1. State 4, a release: freed, message 6 with error 1 to the picker, by kind 8 and by kind 7 whatever its number.
+    ∷ edge (with 7 (held RemoteRequested 900 1)) (event 8 1 0 0 0) emptyTable (answer 0 (callOf 1) 7 0 6 900 0 1 0 5 0 0 0 0)
+    ∷ edge (with 7 (held RemoteRequested 900 1)) (event 7 1 0 1 0) emptyTable (answer 0 (callOf 1) 7 0 6 900 0 1 0 5 0 0 0 0)
+    ∷ edge (with 7 (held RemoteRequested 900 1)) (event 7 1 0 5 0) emptyTable (answer 0 (callOf 1) 7 0 6 900 0 1 0 5 0 0 0 0)
+    -- Q-1. State 4, T3 expires: freed, message 7 and then message 6.
+    ∷ edge (with 7 (held RemoteRequested 900 1)) (event 10 1 0 0 3) emptyTable (answer 0 (callOf 1) 7 0 7 0 0 0 0 5 6 900 0 1)
+    -- Q-1. State 5: the picker has its result, and hears nothing more.
+    ∷ edge (with 7 (held HandedOver 0 1)) (event 8 1 0 0 0) emptyTable (answer 0 (callOf 1) 7 0 0 0 0 0 0 1 0 0 0 0)
+    ∷ edge (with 7 (held HandedOver 0 1)) (event 10 1 0 0 3) emptyTable (answer 0 (callOf 1) 7 0 7 0 0 0 0 1 0 0 0 0)
     ∷ []
 
 -- the step from the edge's table is the edge's answer and table

@@ -24,9 +24,10 @@ use Rattle.events.specs.declared.Answer.{Answer}
 use Rattle.step.specs.declared.Step.{Step}
 use Rattle.events.specs.declared.rule.Rule.{Rule}
 use Rattle.events.specs.declared.rule.Rule.the-variants.{Start, On, Unknown}
-use Rattle.events.specs.declared.rule.Signal.{Signal}
 use Rattle.events.specs.declared.rule.Signal.the-variants.{LocalPickup, PickRequest, PickupResult, PickupError, ErrorInRelease, Release, Answered, Expiry}
+use Rattle.events.specs.declared.message.Sent.{Sent}
 use Rattle.events.specs.Rule.{ruleOf}
+use Rattle.events.specs.Reply.{replies, RepliesOnce}
 use Rattle.events.specs.Sought.{isTimer}
 use Rattle.step.specs.Step.{stepOf}
 
@@ -171,18 +172,43 @@ ReleaseFrees = (t : Table) (e : Event) → Full t → isSound t ≡ true → (e 
 abbrev pub RemoteResultHolds : Type 0
 RemoteResultHolds = (t : Table) (e : Event) → Full t → IsAccepted t e → e .kind ≡ 5
     → (x : AtOnePlace t (stepOf t e)) → recordAt t (x .index) .state ≡ RemoteRequested
-    → (stepOf t e .answer .state ≡ 5) × (stepOf t e .answer .message ≡ 5) × (stepOf t e .answer .connection ≡ recordAt t (x .index) .connection)
+    → (stepOf t e .answer .state ≡ 5) × (stepOf t e .answer .first .message ≡ 5) × (stepOf t e .answer .first .connection ≡ recordAt t (x .index) .connection)
+
+-- ---- the picker who waits for a reply (document 02, Q-1)
+
+-- from the one table to the other, the call at an index leaves state 4
+pub record Leaves4 (t u : Table) (j : ℕ) : Type 0 where
+  pub was : recordAt t j .state ≡ RemoteRequested
+  pub is-not : recordAt u j .state ≡ RemoteRequested → ⊥
+
+-- `picker-told-once`: whenever a call in state 4 leaves it, by any event, just one message 5 or 6 goes out, on the picker's connection
+abbrev pub PickerToldOnce : Type 0
+PickerToldOnce = (t : Table) (e : Event) (j : ℕ) → Full t → Leaves4 t (stepOf t e .table) j
+    → RepliesOnce (recordAt t j .connection) (stepOf t e .answer .first) (stepOf t e .answer .second)
+
+-- why a message 5 or 6 goes out: a call leaves state 4, or a pickrequ is refused
+pub data Cause (t : Table) (e : Event) : Type 0 where
+  leaves : (j : ℕ) → j < 96 → Leaves4 t (stepOf t e .table) j → Cause t e
+  refused : (IsAccepted t e → ⊥) → ruleOf (e .kind) ≡ On PickRequest → Cause t e
+
+-- `replies-have-cause`: none goes out otherwise
+abbrev pub RepliesHaveCause : Type 0
+RepliesHaveCause = (t : Table) (e : Event) → Full t → (replies (stepOf t e .answer .first) (stepOf t e .answer .second) ≡ 0 → ⊥) → Cause t e
 
 -- ---- how large an answer's numbers are
+
+pub record SmallSent (x : Sent) : Type 0 where
+  pub message : x .message ≤ 7
+  pub error : x .error ≤ 2
 
 pub record Small (a : Answer) : Type 0 where
   pub number : a .number ≤ 25
   pub place : a .place .0 ≤ 96
   pub state : a .state ≤ 5
-  pub message : a .message ≤ 7
-  pub error : a .error ≤ 2
+  pub first : SmallSent (a .first)
   pub started : a .started ≤ 7
   pub stopped : a .stopped ≤ 7
+  pub second : SmallSent (a .second)
 
 -- `answers-small`: of every table and event, refused ones too
 abbrev pub AnswersSmall : Type 0

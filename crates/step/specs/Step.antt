@@ -1,4 +1,4 @@
--- THE MACHINE: one event at a table, its answer and the table after it (document 01, "Events" and "Refusal numbers").
+-- THE MACHINE: one event at a table, its answer and the table after it (document 01, "Events" and "Refusal numbers"; document 02, Q-1).
 -- Assumes nothing.
 use mathlib.Core.Bool.{cond}
 use mathlib.Core.List.{List}
@@ -32,8 +32,8 @@ abbrev pub placed : Table → ℕ → Acted → Step
 placed t i a = record { table = record { places = set (t .places) i (a .after) }; answer = a .answer }
 
 -- a new record at an index, with its call's answer
-abbrev pub done : Table → ℕ → Record → List ℕ → Message → Step
-done t i new call m = placed t i (changed i (recordAt t i) new call m)
+abbrev pub done : Table → ℕ → Record → List ℕ → Message → Message → Step
+done t i new call first second = placed t i (changed i (recordAt t i) new call first second)
 
 abbrev pub settled : Table → Event → ℕ → List ℕ → Outcome → Step
 settled t e i call u = placed t i (left e i (recordAt t i) call u)

@@ -1,7 +1,8 @@
-//! The park and pickup table of document 01, written a second time, from the document alone.
+//! The park and pickup table of document 01, with request Q-1 of document 02, written a second time, from the
+//! documents alone.
 //!
 //! It serves as the other side of a comparison: the tests hold every octet of the product against it, and a
-//! benchmark may hold the product's speed against it. Remarks name the heading of the document in quotes.
+//! benchmark may hold the product's speed against it. Remarks name the heading of document 01 in quotes.
 
 #![forbid(unsafe_code)]
 
@@ -13,7 +14,7 @@ pub mod trial;
 
 pub use image::{park_step, read_image, write_image, IMAGE_OCTETS, RECORD_OCTETS};
 pub use lines::{read_line, session, write_answer, write_event, ANSWER_OCTETS, LINE_OCTETS};
-pub use machine::{step, Answer, ErrorNumber, Event, Message};
+pub use machine::{step, Answer, ErrorNumber, Event, Message, MessageNumber};
 pub use table::{refusal, Call, Connection, Invoke, Place, Record, Side, State, Status, Table};
 
 #[cfg(test)]

@@ -2,13 +2,13 @@
 
 use std::io::{self, BufRead, BufReader, Read, Write};
 
-use crate::machine::{step, Answer, Event};
+use crate::machine::{step, Answer, Event, Message};
 use crate::table::{refusal, Call, Connection, Invoke, Place, Table};
 
 /// The longest event line, its line feed not counted.
 pub const LINE_OCTETS: usize = 62;
-/// The longest answer line, its line feed counted.
-pub const ANSWER_OCTETS: usize = 61;
+/// No answer line is longer, its line feed counted.
+pub const ANSWER_OCTETS: usize = 77;
 
 const FIELDS: usize = 7;
 
@@ -116,25 +116,35 @@ impl Text<'_> {
         digits[first..].iter().for_each(|&digit| self.octet(digit));
     }
 
-    /// The first field, the call, and the numbers after it, parted by tabs.
-    fn fields(&mut self, first: u8, call: Call, others: &[u16]) {
+    fn numbers(&mut self, values: &[u16]) {
+        for &value in values {
+            self.octet(b'\t');
+            self.number(value);
+        }
+    }
+
+    /// The first two fields of either line. Each of the numbers after them brings its tab.
+    fn head(&mut self, first: u8, call: Call) {
         self.number(first.into());
         self.octet(b'\t');
         self.call(call);
-        for &number in others {
-            self.octet(b'\t');
-            self.number(number);
-        }
+    }
+
+    fn message(&mut self, message: &Message) {
+        let Message { number, connection, invoke, error } = *message;
+        self.numbers(&[number as u16, connection.0, invoke.0, error as u16]);
     }
 }
 
-/// Writes the answer line with its line feed, and gives its length. 61 octets hold every answer of `step`.
+/// Writes the answer line with its line feed, and gives its length. `ANSWER_OCTETS` hold every answer of `step`.
 pub fn write_answer(answer: &Answer, buffer: &mut [u8]) -> usize {
-    let Answer { number, call, place, state, message, connection, invoke, error, started, stopped } = *answer;
-    let (state, message, error) = (state as u16, message as u16, error as u16);
-    let others = [place.0, state, message, connection.0, invoke.0, error, started.into(), stopped.into()];
+    let Answer { number, call, place, state, messages: [first, second], started, stopped } = *answer;
     let mut text = Text { buffer, length: 0 };
-    text.fields(number, call, &others);
+    text.head(number, call);
+    text.numbers(&[place.0, state as u16]);
+    text.message(&first);
+    text.numbers(&[started.into(), stopped.into()]);
+    text.message(&second);
     text.octet(b'\n');
     text.length
 }
@@ -143,7 +153,8 @@ pub fn write_answer(answer: &Answer, buffer: &mut [u8]) -> usize {
 pub fn write_event(event: &Event, buffer: &mut [u8]) -> usize {
     let Event { kind, call, place, choice, connection, invoke, timer } = *event;
     let mut text = Text { buffer, length: 0 };
-    text.fields(kind, call, &[place.0, choice.into(), connection.0, invoke.0, timer.into()]);
+    text.head(kind, call);
+    text.numbers(&[place.0, choice.into(), connection.0, invoke.0, timer.into()]);
     text.length
 }
 

@@ -1,4 +1,4 @@
-//! One event, one answer ("Events" and "Refusal numbers").
+//! One event, one answer ("Events" and "Refusal numbers", and request Q-1).
 
 use crate::table::{refusal, Call, Connection, Invoke, Place, Record, Side, State, Table};
 
@@ -15,7 +15,7 @@ pub struct Event {
 
 #[derive(Clone, Copy, PartialEq, Eq, Debug, Default)]
 #[repr(u8)]
-pub enum Message {
+pub enum MessageNumber {
     #[default]
     None,
     CpSetupResult,
@@ -36,16 +36,23 @@ pub enum ErrorNumber {
     CallAlreadyPickedUp,
 }
 
+/// One message with what it carries.
+#[derive(Clone, Copy, PartialEq, Eq, Debug, Default)]
+pub struct Message {
+    pub number: MessageNumber,
+    pub connection: Connection,
+    pub invoke: Invoke,
+    pub error: ErrorNumber,
+}
+
 #[derive(Clone, Copy, PartialEq, Eq, Debug, Default)]
 pub struct Answer {
     pub number: u8,
     pub call: Call,
     pub place: Place,
     pub state: State,
-    pub message: Message,
-    pub connection: Connection,
-    pub invoke: Invoke,
-    pub error: ErrorNumber,
+    /// In the order in which they are sent; where there is only one, it is the first.
+    pub messages: [Message; 2],
     pub started: u8,
     pub stopped: u8,
 }
@@ -53,8 +60,8 @@ pub struct Answer {
 /// Takes one event. A refused event leaves the table as it was.
 pub fn step(table: &mut Table, event: &Event) -> Answer {
     let done = match event.kind {
-        1 => enter(table, event, Side::Position, Message::CpSetupResult),
-        2 => enter(table, event, Side::Line, Message::None),
+        1 => enter(table, event, Side::Position, MessageNumber::CpSetupResult),
+        2 => enter(table, event, Side::Line, MessageNumber::None),
         3 | 4 => pick_up(table, event),
         5 | 6 => answer_to_pickup(table, event),
         7 | 8 => release_complete(table, event),
@@ -67,62 +74,80 @@ pub fn step(table: &mut Table, event: &Event) -> Answer {
 
 /// What an answer holds beside its number when the event is refused.
 fn refused(event: &Event, number: u8) -> Answer {
-    let bare = Answer { number, ..Answer::default() };
-    match (event.kind, number) {
+    let message = match (event.kind, number) {
         (1, refusal::CALL_PRESENT | refusal::NO_FREE_PLACE) => {
-            Answer { message: Message::CpSetupError, error: ErrorNumber::Undefined, ..bare }
+            Message { number: MessageNumber::CpSetupError, error: ErrorNumber::Undefined, ..Message::default() }
         }
         (4, refusal::CHOICE_OR_TIMER | refusal::CALL_ABSENT | refusal::NOTHING_WAITS | refusal::PICKED_UP) => {
             let error = match number {
                 refusal::PICKED_UP => ErrorNumber::CallAlreadyPickedUp,
                 _ => ErrorNumber::Undefined,
             };
-            Answer { message: Message::PickrequError, connection: event.connection, error, ..bare }
+            pickrequ_error(event.connection, error)
         }
+        _ => Message::default(),
+    };
+    Answer { number, messages: [message, Message::default()], ..Answer::default() }
+}
+
+fn pickrequ_error(connection: Connection, error: ErrorNumber) -> Message {
+    Message { number: MessageNumber::PickrequError, connection, error, ..Message::default() }
+}
+
+/// A message of an accepted event: the picker's connection is the one before the event, the count that after it.
+fn message(number: MessageNumber, before: &Record, after: &Record) -> Message {
+    let bare = Message { number, ..Message::default() };
+    match number {
+        MessageNumber::ConnectWithPickup | MessageNumber::FacilityWithPickup => {
+            Message { invoke: after.count, ..bare }
+        }
+        MessageNumber::PickrequResult => Message { connection: before.connection, ..bare },
+        MessageNumber::PickrequError => pickrequ_error(before.connection, ErrorNumber::Undefined),
         _ => bare,
     }
 }
 
 /// Puts a record in its place. Every accepted event ends here, so the fields of its answer have one source.
-fn replace(table: &mut Table, index: usize, after: Record, message: Message) -> Answer {
+fn replace(table: &mut Table, index: usize, after: Record, messages: [MessageNumber; 2]) -> Answer {
     let before = std::mem::replace(&mut table.records[index], after);
     let stay = if before.state == State::Free { &after } else { &before };
     let (was, is) = (Side::of(index).timers(before.state), Side::of(index).timers(after.state));
-    let mut answer = Answer {
+    Answer {
         number: 0,
         call: stay.call,
         place: Place(index as u16 + 1),
         state: after.state,
-        message,
+        messages: messages.map(|number| message(number, &before, &after)),
         started: is & !was,
         stopped: was & !is,
-        ..Answer::default()
-    };
-    match message {
-        Message::ConnectWithPickup | Message::FacilityWithPickup => answer.invoke = after.count,
-        Message::PickrequResult => answer.connection = before.connection,
-        Message::PickrequError => {
-            answer.connection = before.connection;
-            answer.error = ErrorNumber::Undefined;
-        }
-        _ => {}
     }
-    answer
 }
 
-fn free(table: &mut Table, index: usize, message: Message) -> Answer {
-    replace(table, index, Record::FREE, message)
+/// The call is held after the event: one message at the most.
+fn hold(table: &mut Table, index: usize, after: Record, message: MessageNumber) -> Answer {
+    replace(table, index, after, [message, MessageNumber::None])
+}
+
+/// The call is gone. A picker who waited for it is told after all else.
+fn free(table: &mut Table, index: usize, message: MessageNumber) -> Answer {
+    let picker_waits = table.records[index].state == State::CpickupRemoteRequested;
+    let messages = match (picker_waits, message) {
+        (false, _) => [message, MessageNumber::None],
+        (true, MessageNumber::None) => [MessageNumber::PickrequError, MessageNumber::None],
+        (true, _) => [message, MessageNumber::PickrequError],
+    };
+    replace(table, index, Record::FREE, messages)
 }
 
 /// Ends a remote pickup that failed: the call waits again, its picker is told.
 fn wait_again(table: &mut Table, index: usize) -> Answer {
     let state = Side::of(index).waiting();
     let after = Record { state, connection: Connection(0), ..table.records[index] };
-    replace(table, index, after, Message::PickrequError)
+    hold(table, index, after, MessageNumber::PickrequError)
 }
 
 /// Kinds 1 and 2.
-fn enter(table: &mut Table, event: &Event, side: Side, message: Message) -> Result<Answer, u8> {
+fn enter(table: &mut Table, event: &Event, side: Side, message: MessageNumber) -> Result<Answer, u8> {
     if table.find(event.call).is_some() {
         return Err(refusal::CALL_PRESENT);
     }
@@ -132,7 +157,7 @@ fn enter(table: &mut Table, event: &Event, side: Side, message: Message) -> Resu
         .or_else(|| table.lowest(side, State::Free))
         .ok_or(refusal::NO_FREE_PLACE)?;
     let after = Record { state: side.waiting(), call: event.call, ..Record::FREE };
-    Ok(replace(table, index, after, message))
+    Ok(hold(table, index, after, message))
 }
 
 /// Kinds 3 and 4.
@@ -150,10 +175,10 @@ fn pick_up(table: &mut Table, event: &Event) -> Result<Answer, u8> {
     }
     let count = Invoke(record.count.0.wrapping_add(1));
     let (state, connection, message) = match event.kind {
-        3 => (State::CpickupRequested, Connection(0), Message::ConnectWithPickup),
-        _ => (State::CpickupRemoteRequested, event.connection, Message::FacilityWithPickup),
+        3 => (State::CpickupRequested, Connection(0), MessageNumber::ConnectWithPickup),
+        _ => (State::CpickupRemoteRequested, event.connection, MessageNumber::FacilityWithPickup),
     };
-    Ok(replace(table, index, Record { state, connection, count, ..record }, message))
+    Ok(hold(table, index, Record { state, connection, count, ..record }, message))
 }
 
 /// Kinds 5 and 6. The call finds the place, never the position: a place may have been used again.
@@ -169,33 +194,27 @@ fn answer_to_pickup(table: &mut Table, event: &Event) -> Result<Answer, u8> {
         return Err(refusal::INVOKE);
     }
     Ok(match (event.kind, remote) {
-        (5, false) => free(table, index, Message::None),
+        (5, false) => free(table, index, MessageNumber::None),
         (5, true) => {
             let after = Record { state: State::HandedOver, connection: Connection(0), ..record };
-            replace(table, index, after, Message::PickrequResult)
+            hold(table, index, after, MessageNumber::PickrequResult)
         }
-        (_, false) => free(table, index, Message::ReleaseComplete),
+        (_, false) => free(table, index, MessageNumber::ReleaseComplete),
         (_, true) => wait_again(table, index),
     })
 }
 
-/// Kinds 7 and 8: the call is gone, whatever its state; only an error in time reaches the remote picker.
+/// Kinds 7 and 8: the call is gone, whatever its state, and whatever the error inside the release has to say.
 fn release_complete(table: &mut Table, event: &Event) -> Result<Answer, u8> {
     let index = present(table, event)?;
-    let record = table.records[index];
-    let picker_waits = record.state == State::CpickupRemoteRequested;
-    let message = match event.kind == 7 && picker_waits && event.invoke == record.count {
-        true => Message::PickrequError,
-        false => Message::None,
-    };
-    Ok(free(table, index, message))
+    Ok(free(table, index, MessageNumber::None))
 }
 
 /// Kind 9.
 fn answered(table: &mut Table, event: &Event) -> Result<Answer, u8> {
     let index = present(table, event)?;
     match table.records[index].state {
-        State::WaitForPickup => Ok(free(table, index, Message::None)),
+        State::WaitForPickup => Ok(free(table, index, MessageNumber::None)),
         _ => Err(refusal::STATE),
     }
 }
@@ -214,7 +233,7 @@ fn expiry(table: &mut Table, event: &Event) -> Result<Answer, u8> {
     }
     Ok(match event.timer {
         9 => wait_again(table, index),
-        _ => free(table, index, Message::ReleaseComplete),
+        _ => free(table, index, MessageNumber::ReleaseComplete),
     })
 }
 

@@ -9,7 +9,7 @@ use Rattle.console.proofs.answer_all.Statement.{statement}
 use Rattle.console.proofs.answer_all.Tie as tie
 
 abbrev Inv-loop : tie.InvT-loop
-Inv-loop s₀ piece₀ out₀ turns₀ s piece out turns = (length piece ≡ 16384) × (length out ≡ 999424)
+Inv-loop s₀ piece₀ out₀ turns₀ s piece out turns = (length piece ≡ 16384) × (length out ≡ 1261568)
 
 abbrev μ-loop : tie.MeasureT-loop
 μ-loop s₀ piece₀ out₀ turns₀ s piece out turns = turns
@@ -18,7 +18,7 @@ start-requires : tie.Need-start-requires Inv-loop μ-loop
 start-requires c κs = search needs
 
 loop-holds : tie.Need-loop-holds Inv-loop μ-loop
-loop-holds c = (length-replicate {A = ℕ} 16384 0, length-replicate {A = ℕ} 999424 0)
+loop-holds c = (length-replicate {A = ℕ} 16384 0, length-replicate {A = ℕ} 1261568 0)
 
 slice-aggregate-answer-some : tie.Need-slice-aggregate-answer-some Inv-loop μ-loop
 slice-aggregate-answer-some c = search needs

@@ -6,7 +6,7 @@ use Prim.Native.Nat.{ℕ, _≤_}
 use native.Mathlib.Omega.{arith}
 use lib.ListN.{length}
 use borrow.Author.Tests.{lt-ltb, le-ltb}
-use Rattle.lines.specs.AnswerLine.{answerLine}
+use Rattle.lines.specs.AnswerLine.{answerLine, answerRoom}
 use Rattle.lent.proofs.LineSteps.{Typed}
 use Rattle.lent.specs.Lent.{stepOn}
 use Rattle.lent.proofs.Short.{on-short}
@@ -31,7 +31,12 @@ same-length-2 c = search needs
 
 -- what the types say of the answer
 typed : (c : tie.After-answer-line) → Typed (c .answer-line .result)
-typed c = record { number = search needs; long = search needs; connection = search needs; invoke = search needs }
+typed c = record {
+  number = search needs;
+  long = search needs;
+  first = record { connection = search needs; invoke = search needs };
+  second = record { connection = search needs; invoke = search needs };
+}
 
 returns-2 : tie.Need-returns-2
 returns-2 c =
@@ -41,8 +46,8 @@ returns-2 c =
     let s = i .before .before .before .before .args in
     let same = k .answer-line .ensures .0 in
     let text : List ℕ = answerLine (stepOn (s .image .now) (s .line .now) .answer) in
-    let short : length text ≤ 61 = on-short (s .image .now) (s .line .now) (rw same at (typed k)) in
-    let long = le-ltb (length (s .answer .now)) 61 (i .if1 .left) in
+    let short : length text ≤ answerRoom = on-short (s .image .now) (s .line .now) (rw same at (typed k)) in
+    let long = le-ltb (length (s .answer .now)) answerRoom (i .if1 .left) in
     let given : answerLine (k .answer-line .result) ≡ text = ap answerLine same in
     let fits = le-ltb (length (s .answer .now)) (length text) (omega (arith, short, i .if1 .left)) in (
       rw long (w .write-answer .ensures .0 ∙ rw (given, fits)),

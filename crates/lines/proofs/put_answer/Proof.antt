@@ -1,4 +1,4 @@
--- After each call the line is written up to a field, and what is left starts with the next one.
+-- After each call the line is written up to a field or to a message, and what is left starts with the next one.
 -- Assumes nothing.
 use mathlib.Core.Path.{_≡_}
 use mathlib.Core.List.{List, [], _∷_, _++_}
@@ -11,29 +11,23 @@ use Rattle.events.specs.declared.Answer.{Answer}
 use Rattle.lines.specs.Numbers.{decimal}
 use Rattle.lines.specs.Calls.{hexOf}
 use Rattle.lines.specs.EventLine.{joined}
-use Rattle.lines.specs.AnswerLine.{answerLine}
+use Rattle.lines.specs.AnswerLine.{sentLine, answerLine}
 use Rattle.lines.proofs.Lengths.{length-call}
 use Rattle.lines.proofs.put_answer.Statement.{statement}
 use Rattle.lines.proofs.put_answer.Tie as tie
 
--- what is left of the line from its last field on, from the field before it on, and so on
-abbrev left10 : Answer → List ℕ
-left10 a = decimal (a .stopped) ++ (10 ∷ [])
-
-abbrev left9 : Answer → List ℕ
-left9 a = joined (decimal (a .started)) (left10 a)
-
+-- what is left of the line from its last part on, from the part before it on, and so on
 abbrev left8 : Answer → List ℕ
-left8 a = joined (decimal (a .error)) (left9 a)
+left8 a = sentLine (a .second) ++ (10 ∷ [])
 
 abbrev left7 : Answer → List ℕ
-left7 a = joined (decimal (a .invoke .0)) (left8 a)
+left7 a = joined (decimal (a .stopped)) (left8 a)
 
 abbrev left6 : Answer → List ℕ
-left6 a = joined (decimal (a .connection .0)) (left7 a)
+left6 a = joined (decimal (a .started)) (left7 a)
 
 abbrev left5 : Answer → List ℕ
-left5 a = joined (decimal (a .message)) (left6 a)
+left5 a = joined (sentLine (a .first)) (left6 a)
 
 abbrev left4 : Answer → List ℕ
 left4 a = joined (decimal (a .state)) (left5 a)
@@ -57,23 +51,17 @@ S3 c = S2 (c .before .before .before .before .before)
 abbrev S4 : tie.After-put-number-and3 → tie.Start
 S4 c = S3 (c .before .before .before .before .before)
 
-abbrev S5 : tie.After-put-number-and4 → tie.Start
-S5 c = S4 (c .before .before .before .before .before)
+abbrev S5 : tie.After-put-sent → tie.Start
+S5 c = S4 (c .before .before .before .before)
 
-abbrev S6 : tie.After-put-number-and5 → tie.Start
+abbrev S6 : tie.After-put-number-and4 → tie.Start
 S6 c = S5 (c .before .before .before .before .before)
 
-abbrev S7 : tie.After-put-number-and6 → tie.Start
+abbrev S7 : tie.After-put-number-and5 → tie.Start
 S7 c = S6 (c .before .before .before .before .before)
 
-abbrev S8 : tie.After-put-number-and7 → tie.Start
-S8 c = S7 (c .before .before .before .before .before)
-
-abbrev S9 : tie.After-put-number-and8 → tie.Start
-S9 c = S8 (c .before .before .before .before .before)
-
-abbrev S10 : tie.After-put-number-and9 → tie.Start
-S10 c = S9 (c .before .before .before .before .before)
+abbrev S8 : tie.After-put-sent2 → tie.Start
+S8 c = S7 (c .before .before .before .before)
 
 abbrev Wrote : tie.Start → List ℕ → ℕ → List ℕ → Type 0
 Wrote c rest p d = Writing (c .args .out .now) (answerLine (c .args .a)) rest p d
@@ -85,7 +73,7 @@ written1 : (c : tie.After-put-number-and) → Wrote (S1 c) (left2 (S1 c .args .a
 unfolding answerLine
 written1 c =
     let a = S1 c .args .a in
-    writing-on (decimal (a .number)) 9 (left2 a) (writing-none (S1 c .args .out .now) (answerLine (S1 c .args .a)))
+    writing-on (decimal (a .number)) 9 (left2 a) (writing-none (S1 c .args .out .now) (answerLine a))
     (c .put-number-and .ensures .0) (c .put-number-and .ensures .1)
 
 written2 : (c : tie.After-put-call-tab) → Wrote (S2 c) (left3 (S2 c .args .a)) (c .put-call-tab .result) (c .put-call-tab .last .0)
@@ -106,41 +94,27 @@ written4 c =
     writing-on (decimal (a .state)) 9 (left5 a) (written3 (c .before .before .before .before .before)) (c .put-number-and3 .ensures .0)
     (c .put-number-and3 .ensures .1)
 
-written5 : (c : tie.After-put-number-and4) → Wrote (S5 c) (left6 (S5 c .args .a)) (c .put-number-and4 .result) (c .put-number-and4 .last .0)
+written5 : (c : tie.After-put-sent) → Wrote (S5 c) (left6 (S5 c .args .a)) (c .put-sent .result) (c .put-sent .last .0)
 written5 c =
     let a = S5 c .args .a in
-    writing-on (decimal (a .message)) 9 (left6 a) (written4 (c .before .before .before .before .before)) (c .put-number-and4 .ensures .0)
-    (c .put-number-and4 .ensures .1)
+    writing-on (sentLine (a .first)) 9 (left6 a) (written4 (c .before .before .before .before)) (c .put-sent .ensures .0) (c .put-sent .ensures .1)
 
-written6 : (c : tie.After-put-number-and5) → Wrote (S6 c) (left7 (S6 c .args .a)) (c .put-number-and5 .result) (c .put-number-and5 .last .0)
+written6 : (c : tie.After-put-number-and4) → Wrote (S6 c) (left7 (S6 c .args .a)) (c .put-number-and4 .result) (c .put-number-and4 .last .0)
 written6 c =
     let a = S6 c .args .a in
-    writing-on (decimal (a .connection .0)) 9 (left7 a) (written5 (c .before .before .before .before .before))
-    (c .put-number-and5 .ensures .0) (c .put-number-and5 .ensures .1)
+    writing-on (decimal (a .started)) 9 (left7 a) (written5 (c .before .before .before .before .before)) (c .put-number-and4 .ensures .0)
+    (c .put-number-and4 .ensures .1)
 
-written7 : (c : tie.After-put-number-and6) → Wrote (S7 c) (left8 (S7 c .args .a)) (c .put-number-and6 .result) (c .put-number-and6 .last .0)
+written7 : (c : tie.After-put-number-and5) → Wrote (S7 c) (left8 (S7 c .args .a)) (c .put-number-and5 .result) (c .put-number-and5 .last .0)
 written7 c =
     let a = S7 c .args .a in
-    writing-on (decimal (a .invoke .0)) 9 (left8 a) (written6 (c .before .before .before .before .before)) (c .put-number-and6 .ensures .0)
-    (c .put-number-and6 .ensures .1)
+    writing-on (decimal (a .stopped)) 9 (left8 a) (written6 (c .before .before .before .before .before)) (c .put-number-and5 .ensures .0)
+    (c .put-number-and5 .ensures .1)
 
-written8 : (c : tie.After-put-number-and7) → Wrote (S8 c) (left9 (S8 c .args .a)) (c .put-number-and7 .result) (c .put-number-and7 .last .0)
+written8 : (c : tie.After-put-sent2) → Wrote (S8 c) [] (c .put-sent2 .result) (c .put-sent2 .last .0)
 written8 c =
     let a = S8 c .args .a in
-    writing-on (decimal (a .error)) 9 (left9 a) (written7 (c .before .before .before .before .before)) (c .put-number-and7 .ensures .0)
-    (c .put-number-and7 .ensures .1)
-
-written9 : (c : tie.After-put-number-and8) → Wrote (S9 c) (left10 (S9 c .args .a)) (c .put-number-and8 .result) (c .put-number-and8 .last .0)
-written9 c =
-    let a = S9 c .args .a in
-    writing-on (decimal (a .started)) 9 (left10 a) (written8 (c .before .before .before .before .before)) (c .put-number-and8 .ensures .0)
-    (c .put-number-and8 .ensures .1)
-
-written10 : (c : tie.After-put-number-and9) → Wrote (S10 c) [] (c .put-number-and9 .result) (c .put-number-and9 .last .0)
-written10 c =
-    let a = S10 c .args .a in
-    writing-on (decimal (a .stopped)) 10 [] (written9 (c .before .before .before .before .before)) (c .put-number-and9 .ensures .0)
-    (c .put-number-and9 .ensures .1)
+    writing-on (sentLine (a .second)) 10 [] (written7 (c .before .before .before .before)) (c .put-sent2 .ensures .0) (c .put-sent2 .ensures .1)
 
 cast-put-number-and : tie.Need-cast-put-number-and
 cast-put-number-and c = search needs
@@ -176,65 +150,41 @@ put-number-and-requires-3 c κs =
     let a = s .args .a in
     on-room (decimal (a .state)) 9 (left5 a) (written3 (c .before .before .before .before)) (s .pre)
 
+put-sent-requires : tie.Need-put-sent-requires
+put-sent-requires c κs =
+    let s = S4 (c .before .before .before) in
+    let a = s .args .a in
+    on-room (sentLine (a .first)) 9 (left6 a) (written4 (c .before .before .before)) (s .pre)
+
 cast-put-number-and-4 : tie.Need-cast-put-number-and-4
 cast-put-number-and-4 c = search needs
 
 put-number-and-requires-4 : tie.Need-put-number-and-requires-4
 put-number-and-requires-4 c κs =
-    let s = S4 (c .before .before .before .before) in
+    let s = S5 (c .before .before .before .before) in
     let a = s .args .a in
-    on-room (decimal (a .message)) 9 (left6 a) (written4 (c .before .before .before .before)) (s .pre)
+    on-room (decimal (a .started)) 9 (left7 a) (written5 (c .before .before .before .before)) (s .pre)
 
 cast-put-number-and-5 : tie.Need-cast-put-number-and-5
 cast-put-number-and-5 c = search needs
 
 put-number-and-requires-5 : tie.Need-put-number-and-requires-5
 put-number-and-requires-5 c κs =
-    let s = S5 (c .before .before .before .before) in
-    let a = s .args .a in
-    on-room (decimal (a .connection .0)) 9 (left7 a) (written5 (c .before .before .before .before)) (s .pre)
-
-cast-put-number-and-6 : tie.Need-cast-put-number-and-6
-cast-put-number-and-6 c = search needs
-
-put-number-and-requires-6 : tie.Need-put-number-and-requires-6
-put-number-and-requires-6 c κs =
     let s = S6 (c .before .before .before .before) in
     let a = s .args .a in
-    on-room (decimal (a .invoke .0)) 9 (left8 a) (written6 (c .before .before .before .before)) (s .pre)
+    on-room (decimal (a .stopped)) 9 (left8 a) (written6 (c .before .before .before .before)) (s .pre)
 
-cast-put-number-and-7 : tie.Need-cast-put-number-and-7
-cast-put-number-and-7 c = search needs
-
-put-number-and-requires-7 : tie.Need-put-number-and-requires-7
-put-number-and-requires-7 c κs =
-    let s = S7 (c .before .before .before .before) in
+put-sent-requires-2 : tie.Need-put-sent-requires-2
+put-sent-requires-2 c κs =
+    let s = S7 (c .before .before .before) in
     let a = s .args .a in
-    on-room (decimal (a .error)) 9 (left9 a) (written7 (c .before .before .before .before)) (s .pre)
-
-cast-put-number-and-8 : tie.Need-cast-put-number-and-8
-cast-put-number-and-8 c = search needs
-
-put-number-and-requires-8 : tie.Need-put-number-and-requires-8
-put-number-and-requires-8 c κs =
-    let s = S8 (c .before .before .before .before) in
-    let a = s .args .a in
-    on-room (decimal (a .started)) 9 (left10 a) (written8 (c .before .before .before .before)) (s .pre)
-
-cast-put-number-and-9 : tie.Need-cast-put-number-and-9
-cast-put-number-and-9 c = search needs
-
-put-number-and-requires-9 : tie.Need-put-number-and-requires-9
-put-number-and-requires-9 c κs =
-    let s = S9 (c .before .before .before .before) in
-    let a = s .args .a in
-    on-room (decimal (a .stopped)) 10 [] (written9 (c .before .before .before .before)) (s .pre)
+    on-room (sentLine (a .second)) 10 [] (written7 (c .before .before .before)) (s .pre)
 
 same-length : tie.Need-same-length
-same-length c = written10 (c .before .before) .room
+same-length c = written8 (c .before .before) .room
 
 returns : tie.Need-returns
-returns c = writing-all (written10 (c .before .before))
+returns c = writing-all (written8 (c .before .before))
 
 pub put-answer-spec : {M : Type 1} → statement M
 put-answer-spec =
@@ -247,17 +197,11 @@ put-answer-spec =
     put-number-and-requires-2
     cast-put-number-and-3
     put-number-and-requires-3
+    put-sent-requires
     cast-put-number-and-4
     put-number-and-requires-4
     cast-put-number-and-5
     put-number-and-requires-5
-    cast-put-number-and-6
-    put-number-and-requires-6
-    cast-put-number-and-7
-    put-number-and-requires-7
-    cast-put-number-and-8
-    put-number-and-requires-8
-    cast-put-number-and-9
-    put-number-and-requires-9
+    put-sent-requires-2
     same-length
     returns)

@@ -1,4 +1,4 @@
--- The answer fits 61 octets (`on-short`), so it is written, and written into the part from the index on it is a run of stores there
+-- There is room for any answer (`on-short`), so it is written, and written into the part from the index on it is a run of stores there
 -- (`part-sets`).
 -- Assumes nothing.
 use mathlib.Core.Path.{_≡_, ap, _∙_}
@@ -9,7 +9,7 @@ use lib.ListN.{length, take, drop, length-drop}
 use lib.Seq.{sets}
 use borrow.Author.Tests.{le-ltb}
 use Rattle.laws.proofs.Runs.{part-rest}
-use Rattle.lines.specs.AnswerLine.{answerLine}
+use Rattle.lines.specs.AnswerLine.{answerLine, answerRoom}
 use Rattle.lent.proofs.LineSteps.{Typed}
 use Rattle.lent.specs.Lent.{stepOn}
 use Rattle.lent.proofs.Short.{on-short}
@@ -41,7 +41,12 @@ same-length-2 c = search needs
 
 -- what the types say of the answer
 typed : (c : tie.After-answer-at) → Typed (c .answer-at .result)
-typed c = record { number = search needs; long = search needs; connection = search needs; invoke = search needs }
+typed c = record {
+  number = search needs;
+  long = search needs;
+  first = record { connection = search needs; invoke = search needs };
+  second = record { connection = search needs; invoke = search needs };
+}
 
 returns : tie.Need-returns
 returns c =
@@ -51,7 +56,7 @@ returns c =
     let out : List ℕ = s .out .now in
     let same = k .answer-at .ensures .0 in
     let text : List ℕ = answerLine (stepOn (s .image .now) (s .line .now) .answer) in
-    let short : length text ≤ 61 = on-short (s .image .now) (s .line .now) (rw same at (typed k)) in
+    let short : length text ≤ answerRoom = on-short (s .image .now) (s .line .now) (rw same at (typed k)) in
     let part : List ℕ = take (length out - s .at) (drop (s .at) out) in
     let long : length part ≡ length out - s .at = ap length (part-rest out (s .at)) ∙ length-drop (s .at) out in
     let given : answerLine (k .answer-at .result) ≡ text = ap answerLine same in

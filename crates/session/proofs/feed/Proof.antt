@@ -10,7 +10,7 @@ use lib.ListN.{length, take, drop}
 use lib.Seq.{sets, length-take-le}
 use borrow.Author.Needs.{needs}
 use borrow.Author.Tests.{lt-ltb, le-ltb}
-use Rattle.lines.specs.AnswerLine.{answerLine}
+use Rattle.lines.specs.AnswerLine.{answerLine, answerRoom}
 use Rattle.image.specs.Image.{isRead}
 use Rattle.lent.specs.Lent.{stepOn, leftOn}
 use Rattle.session.specs.declared.Session.{Session}
@@ -86,9 +86,9 @@ module _ (c : tie.After-keep-line Inv-loop μ-loop) where
   lengths = let f = fit (At .before .before .before .before .before .before) in (omega (arith, f .0, At .loop .inv .0 .same), f .1)
 
   -- there is room for the answer of a line that has a feed
-  room : c .keep-line .result .end < length P → At .loop .at + 61 ≤ length (At .loop .out)
+  room : c .keep-line .result .end < length P → At .loop .at + answerRoom ≤ length (At .loop .out)
   room h =
-      let all : 61 * length P ≤ length (S .args .out .now) = room-for (length (S .args .out .now)) (length P) (At .before .before .before .before .before .if1 .left) in
+      let all : answerRoom * length P ≤ length (S .args .out .now) = room-for (length (S .args .out .now)) (length P) (At .before .before .before .before .before .if1 .left) in
       omega (arith, there, At .loop .inv .0 .room, At .loop .inv .0 .same)
 
 same-length : tie.Need-same-length Inv-loop μ-loop

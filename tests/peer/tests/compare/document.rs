@@ -1,6 +1,8 @@
-//! The document's own examples: "One session in full" and "Twelve edges to prove", on both sides.
+//! What the documents say with numbers, on both sides: "One session in full", "Twelve edges to prove", and request Q-1.
 
-use peer::{write_image, Call, Event, Invoke, Place, Record, State, Table, IMAGE_OCTETS};
+use peer::{
+    write_image, Call, Connection, Event, Invoke, Place, Record, State, Table, ANSWER_OCTETS, IMAGE_OCTETS,
+};
 
 use crate::desk::Desk;
 use crate::fail;
@@ -8,33 +10,33 @@ use crate::fail;
 const SESSION: [(&str, &str); 5] = [
     (
         "1\t00000000000000000000000000000001\t17\t0\t0\t0\t0",
-        "0\t00000000000000000000000000000001\t17\t1\t1\t0\t0\t0\t1\t0",
+        "0\t00000000000000000000000000000001\t17\t1\t1\t0\t0\t0\t1\t0\t0\t0\t0\t0",
     ),
     (
         "4\t00000000000000000000000000000001\t0\t0\t900\t0\t0",
-        "0\t00000000000000000000000000000001\t17\t4\t4\t0\t1\t0\t4\t0",
+        "0\t00000000000000000000000000000001\t17\t4\t4\t0\t1\t0\t4\t0\t0\t0\t0\t0",
     ),
     (
         "5\t00000000000000000000000000000001\t0\t0\t0\t1\t0",
-        "0\t00000000000000000000000000000001\t17\t5\t5\t900\t0\t0\t0\t4",
+        "0\t00000000000000000000000000000001\t17\t5\t5\t900\t0\t0\t0\t4\t0\t0\t0\t0",
     ),
     (
         "4\t00000000000000000000000000000000\t0\t1\t901\t0\t0",
-        "6\t00000000000000000000000000000000\t0\t0\t6\t901\t0\t1\t0\t0",
+        "6\t00000000000000000000000000000000\t0\t0\t6\t901\t0\t1\t0\t0\t0\t0\t0\t0",
     ),
     (
         "8\t00000000000000000000000000000001\t0\t0\t0\t0\t0",
-        "0\t00000000000000000000000000000001\t17\t0\t0\t0\t0\t0\t0\t1",
+        "0\t00000000000000000000000000000001\t17\t0\t0\t0\t0\t0\t0\t1\t0\t0\t0\t0",
     ),
 ];
 
-/// The call of the edges. Other places taken hold the calls 101 and up.
+/// The call of the edges and of Q-1. Other places taken hold the calls 101 and up.
 const CALL: Call = Call(7);
 
-fn with(records: &[(usize, State, Call, Invoke)]) -> Table {
+fn with(records: &[(usize, Record)]) -> Table {
     let mut all = [Record::FREE; Table::PLACES];
-    for &(place, state, call, count) in records {
-        all[place - 1] = Record { state, call, count, ..Record::FREE };
+    for &(place, record) in records {
+        all[place - 1] = record;
     }
     Table::from_records(all).expect("a sound table")
 }
@@ -42,14 +44,19 @@ fn with(records: &[(usize, State, Call, Invoke)]) -> Table {
 /// All positions taken, the last by the given call.
 fn full(last: Call) -> Table {
     let calls = (1..64).map(|place| (place, Call(100 + place as u128))).chain([(64, last)]);
-    with(&calls.map(|(place, call)| (place, State::CpWaitForPickup, call, Invoke(0))).collect::<Vec<_>>())
+    let parked = |call| Record { state: State::CpWaitForPickup, call, ..Record::FREE };
+    with(&calls.map(|(place, call)| (place, parked(call))).collect::<Vec<_>>())
+}
+
+fn event(kind: u8, invoke: u16, timer: u8) -> Event {
+    Event { kind, call: CALL, invoke: Invoke(invoke), timer, ..Event::default() }
 }
 
 /// Table, event, and the answer as number, place, state, message, invoke, error, started, stopped.
 fn edges() -> Vec<(Table, Event, [u16; 8])> {
-    let one = |place, state, count| with(&[(place, state, CALL, Invoke(count))]);
-    let park = |place| Event { kind: 1, call: CALL, place: Place(place), ..Event::default() };
-    let event = |kind, invoke, timer| Event { kind, call: CALL, invoke: Invoke(invoke), timer, ..Event::default() };
+    let one =
+        |place, state, count| with(&[(place, Record { state, call: CALL, count: Invoke(count), ..Record::FREE })]);
+    let park = |place| Event { place: Place(place), ..event(1, 0, 0) };
     vec![
         (Table::empty(), park(64), [0, 64, 1, 1, 0, 0, 1, 0]),
         (Table::empty(), park(65), [0, 1, 1, 1, 0, 0, 1, 0]),
@@ -66,25 +73,61 @@ fn edges() -> Vec<(Table, Event, [u16; 8])> {
     ]
 }
 
+/// Kind, invoke and timer.
+type Freeing = (u8, u16, u8);
+/// The four fields of a message.
+type Sent = &'static str;
+const NOTHING: Sent = "0\t0\t0\t0";
+const RELEASED: Sent = "7\t0\t0\t0";
+const TOLD: Sent = "6\t65535\t0\t1";
+
+/// Place, its state, and an event that frees it; first message, stopped timers, second message. The count is 1, and in
+/// state 4 the connection 65,535.
+const ENDS: [(usize, State, Freeing, Sent, u8, Sent); 10] = [
+    (64, State::CpickupRemoteRequested, (8, 0, 0), TOLD, 5, NOTHING),
+    (64, State::CpickupRemoteRequested, (7, 0, 0), TOLD, 5, NOTHING),
+    (64, State::CpickupRemoteRequested, (7, 1, 0), TOLD, 5, NOTHING),
+    (64, State::CpickupRemoteRequested, (10, 0, 3), RELEASED, 5, TOLD),
+    (96, State::CpickupRemoteRequested, (8, 0, 0), TOLD, 4, NOTHING),
+    (96, State::CpickupRemoteRequested, (7, 0, 0), TOLD, 4, NOTHING),
+    // Elsewhere nobody waits to be told.
+    (64, State::CpickupRequested, (8, 0, 0), NOTHING, 3, NOTHING),
+    (64, State::HandedOver, (8, 0, 0), NOTHING, 1, NOTHING),
+    (64, State::HandedOver, (7, 1, 0), NOTHING, 1, NOTHING),
+    (64, State::HandedOver, (10, 0, 3), RELEASED, 1, NOTHING),
+];
+
 pub fn run(desk: &mut Desk) {
-    let mut image = [0; IMAGE_OCTETS];
     desk.begin("document, session", 0);
-    desk.load(&image);
+    desk.load(&[0; IMAGE_OCTETS]);
     for (line, expected) in SESSION {
-        let answer = desk.take(line.as_bytes(), 61).escape_ascii().to_string();
+        let answer = desk.take(line.as_bytes(), ANSWER_OCTETS).escape_ascii().to_string();
         demand(&answer, expected);
     }
     desk.begin("document, edges", 0);
     for (table, event, [number, place, rest @ ..]) in edges() {
-        write_image(&table, &mut image).expect("an image's length");
-        desk.load(&image);
-        let answer = desk.take_event(&event).escape_ascii().to_string();
         let call = if number == 0 { CALL.0 } else { 0 };
         let [state, message, invoke, error, started, stopped] = rest;
         let head = format!("{number}\t{call:032x}\t{place}\t{state}\t{message}\t0");
-        demand(&answer, &format!("{head}\t{invoke}\t{error}\t{started}\t{stopped}"));
+        demand_at(desk, &table, &event, &format!("{head}\t{invoke}\t{error}\t{started}\t{stopped}\t{NOTHING}"));
     }
-    println!("document: session of {} lines, {} edges", SESSION.len(), edges().len());
+    desk.begin("document, request Q-1", 0);
+    for (place, state, (kind, invoke, timer), first, stopped, second) in ENDS {
+        let connection = Connection(if state == State::CpickupRemoteRequested { 65_535 } else { 0 });
+        let table = with(&[(place, Record { state, call: CALL, connection, count: Invoke(1) })]);
+        let expected = format!("0\t{:032x}\t{place}\t0\t{first}\t0\t{stopped}\t{second}", CALL.0);
+        demand_at(desk, &table, &event(kind, invoke, timer), &expected);
+    }
+    let (lines, edges, ends) = (SESSION.len(), edges().len(), ENDS.len());
+    println!("document: session of {lines} lines, {edges} edges, {ends} ends of a stay by Q-1");
+}
+
+fn demand_at(desk: &mut Desk, table: &Table, event: &Event, expected: &str) {
+    let mut image = [0; IMAGE_OCTETS];
+    write_image(table, &mut image).expect("an image's length");
+    desk.load(&image);
+    let answer = desk.take_event(event).escape_ascii().to_string();
+    demand(&answer, expected);
 }
 
 fn demand(answer: &str, expected: &str) {

@@ -133,7 +133,7 @@ fn short_buffers(desk: &mut Desk, name: &'static str) {
         unsound[RECORD_OCTETS * rng.below(Table::PLACES)] = 6;
         let mut follower = Follower::new(seed, fill);
         desk.begin(name, seed);
-        for octets in (0..=64).chain([256, 300, 65_536, 65_600]) {
+        for octets in (0..=ANSWER_OCTETS + 3).chain([256, 300, 65_536, 65_600]) {
             desk.load(&sound);
             let event = follower.event(&desk.table());
             let (good, bad) = (line_of(&event), damage::random(&mut rng, &event));

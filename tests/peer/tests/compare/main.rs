@@ -1,4 +1,5 @@
-//! The product against the peer, octet by octet, from fixed seeds, and the rearrangement of whole runs.
+//! The product against the peer, octet by octet, from fixed seeds; and on whole runs of the peer, their rearrangement
+//! and what the pickers are told.
 //!
 //! Every part prints one line of counts. The first difference ends the run with what is needed to see it again.
 
@@ -6,9 +7,11 @@ mod damage;
 mod desk;
 mod document;
 mod entry;
+mod pickers;
 mod product;
 mod program;
 mod rearrange;
+mod runs;
 mod tally;
 
 use std::time::Instant;
@@ -21,6 +24,7 @@ fn main() {
     desk.tally.print_and_demand();
     program::run();
     rearrange::run();
+    pickers::run();
     println!("all parts agree, {:.1} s", start.elapsed().as_secs_f64());
 }
 

@@ -1,10 +1,9 @@
 //! Demand 3 tried on the peer's own runs: the stays of a run, taken one after the other, give the same answers and
 //! the same table.
 
-use peer::trial::{Follower, Rng};
 use peer::{step, write_answer, Answer, Event, State, Table, ANSWER_OCTETS};
 
-use crate::fail;
+use crate::{fail, runs};
 
 /// Accepted events with their answers; an index into them names an event.
 type Run = Vec<(Event, Answer)>;
@@ -40,46 +39,26 @@ const SLIPS: [(Slip, &str); 6] = [
 ];
 
 pub fn run() {
-    const RUNS: u64 = 400;
     let (mut tried, mut accepted, mut ended, mut running) = (0, 0, 0, 0);
     let mut noticed = [0; SLIPS.len()];
-    for seed in 0..RUNS {
-        let fill = [1, 3, 10, 30, 60, 96][seed as usize % 6];
-        let events = 200 + Rng::new(seed).below(3_000);
-        let (run, table) = random_run(seed, fill, events);
+    for runs::Run { seed, steps, table } in runs::all() {
+        let done = steps.iter().filter(|step| step.answer.number == 0);
+        let run: Run = done.map(|step| (step.event, step.answer)).collect();
         let stays = stays_of(&run);
         check(seed, &run, &stays, &table);
         for (count, (slip, _)) in noticed.iter_mut().zip(SLIPS) {
             *count += usize::from(!agrees(&run, &rearranged(&run, &stays, Some(slip)), &table));
         }
-        tried += events;
+        tried += steps.len();
         accepted += run.len();
         ended += stays.ended.len();
         running += stays.running.len();
     }
+    let runs = runs::RUNS;
     println!(
-        "rearrangement: {RUNS} runs, {tried} events, {accepted} accepted, stays {ended} ended {running} running"
+        "rearrangement: {runs} runs, {tried} events, {accepted} accepted, stays {ended} ended {running} running"
     );
-    for (count, (_, name)) in noticed.iter().zip(SLIPS) {
-        println!("  {count:>8} runs in which the slip is noticed: {name}");
-        if *count == 0 {
-            fail("a false rearrangement is never noticed");
-        }
-    }
-}
-
-fn random_run(seed: u64, fill: usize, events: usize) -> (Run, Table) {
-    let mut table = Table::empty();
-    let mut follower = Follower::new(seed, fill);
-    let mut run = Run::new();
-    for _ in 0..events {
-        let event = follower.event(&table);
-        let answer = step(&mut table, &event);
-        if answer.number == 0 {
-            run.push((event, answer));
-        }
-    }
-    (run, table)
+    runs::demand_noticed(noticed.into_iter().zip(SLIPS.map(|(_, name)| name)));
 }
 
 fn stays_of(run: &Run) -> Stays {

@@ -18,7 +18,7 @@ pub struct Tally {
 }
 
 /// How many names `Tally::case` is called with.
-const CASES: usize = 32;
+const CASES: usize = 34;
 
 /// By side, state before and kinds: all that "Events" accepts.
 const ACCEPTED: [(bool, u8, &[u8]); 10] = [
@@ -58,6 +58,9 @@ impl Tally {
                 *self.accepted.entry(key).or_default() += 1;
                 if matches!(event.kind, 3 | 4) && field(6) == Some(0) {
                     self.case("pickup whose count wraps to 0");
+                }
+                if field(10) == Some(6) {
+                    self.case("answer with a second message");
                 }
             }
         }
@@ -102,12 +105,16 @@ impl Tally {
         }
         if let (Some(record), 5..=7) = (found, event.kind) {
             let count = u16::from_be_bytes([record[19], record[20]]);
-            self.case(match event.invoke.0.wrapping_sub(count) {
+            let beyond = event.invoke.0.wrapping_sub(count);
+            self.case(match beyond {
                 0 => "kinds 5 to 7 with the count",
                 1 => "kinds 5 to 7 with the count and one more",
                 u16::MAX => "kinds 5 to 7 with the count less one",
                 _ => "kinds 5 to 7 with another number",
             });
+            if (event.kind, record[0]) == (7, 4) && beyond != 0 {
+                self.case("kind 7 in state 4, taken as kind 8");
+            }
         }
         if matches!(event.kind, 5..=10) || matches!((event.kind, event.choice), (3 | 4, 0)) {
             self.case(if found.is_some() {

@@ -1,4 +1,4 @@
--- The fields by the contracts of the nine calls, the latest first.
+-- The fields by the contracts of the seven calls, the latest first.
 -- Assumes nothing.
 use borrow.Author.Needs.{needs}
 use Rattle.events.proofs.answers.accept.Statement.{statement}
@@ -13,17 +13,8 @@ at-requires-2 c κs = search needs
 number-requires : tie.Need-number-requires
 number-requires c κs = search needs
 
-number-requires-2 : tie.Need-number-requires-2
-number-requires-2 c κs = search needs
-
-connection-requires : tie.Need-connection-requires
-connection-requires c κs = search needs
-
-invoke-requires : tie.Need-invoke-requires
-invoke-requires c κs = search needs
-
-error-requires : tie.Need-error-requires
-error-requires c κs = search needs
+sent-requires : tie.Need-sent-requires
+sent-requires c κs = search needs
 
 started-requires : tie.Need-started-requires
 started-requires c κs = search needs
@@ -31,20 +22,20 @@ started-requires c κs = search needs
 started-requires-2 : tie.Need-started-requires-2
 started-requires-2 c κs = search needs
 
+sent-requires-2 : tie.Need-sent-requires-2
+sent-requires-2 c κs = search needs
+
 returns : tie.Need-returns
 returns c =
     let d = c .before .before .before in
-    let f = d .before .before .before in
     rw (
-      c .started2 .ensures,
-      c .before .started .ensures,
-      c .before .before .error .ensures,
-      d .invoke .ensures,
-      d .before .connection .ensures,
-      d .before .before .number2 .ensures,
-      f .number .ensures,
-      f .before .at2 .ensures,
-      f .before .before .at .ensures,
+      c .sent2 .ensures,
+      c .before .started2 .ensures,
+      c .before .before .started .ensures,
+      d .sent .ensures,
+      d .before .number .ensures,
+      d .before .before .at2 .ensures,
+      d .before .before .before .at .ensures,
     )
 
 pub accept-spec : {M : Type 1} → statement M
@@ -54,10 +45,8 @@ accept-spec =
     at-requires
     at-requires-2
     number-requires
-    number-requires-2
-    connection-requires
-    invoke-requires
-    error-requires
+    sent-requires
     started-requires
     started-requires-2
+    sent-requires-2
     returns)

@@ -1,26 +1,17 @@
--- The four fields by the contracts of the calls, the latest first.
+-- The two messages by the contract of `sent`.
 -- Assumes nothing.
 use borrow.Author.Needs.{needs}
 use Rattle.events.proofs.answers.say.Statement.{statement}
 use Rattle.events.proofs.answers.say.Tie as tie
 
-number-requires : tie.Need-number-requires
-number-requires c κs = search needs
+sent-requires : tie.Need-sent-requires
+sent-requires c κs = search needs
 
-connection-requires : tie.Need-connection-requires
-connection-requires c κs = search needs
-
-invoke-requires : tie.Need-invoke-requires
-invoke-requires c κs = search needs
-
-error-requires : tie.Need-error-requires
-error-requires c κs = search needs
+sent-requires-2 : tie.Need-sent-requires-2
+sent-requires-2 c κs = search needs
 
 returns : tie.Need-returns
-returns c =
-    let k = c .before .before in
-    rw (c .error .ensures, c .before .invoke .ensures, k .connection .ensures, k .before .number .ensures)
+returns c = rw (c .sent2 .ensures, c .before .sent .ensures)
 
 pub say-spec : {M : Type 1} → statement M
-say-spec =
-    tie.close (tie.spec number-requires connection-requires invoke-requires error-requires returns)
+say-spec = tie.close (tie.spec sent-requires sent-requires-2 returns)

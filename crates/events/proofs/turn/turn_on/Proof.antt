@@ -1,7 +1,9 @@
--- Each arm of the match is a clause of the definition, by the contracts of its calls.
+-- Each arm of the match is a clause of the definition, by the contracts of its calls; kind 7 does what kind 8 does (`error-in-release`).
 -- Assumes nothing.
-use mathlib.Core.Path.{_∙_}
+use mathlib.Core.Path.{ap, sym, _∙_}
 use borrow.Author.Needs.{needs}
+use Rattle.events.specs.Turn.{stageOf, isOutstanding, released}
+use Rattle.events.proofs.Released.{error-in-release}
 use Rattle.events.proofs.turn.turn_on.Statement.{statement}
 use Rattle.events.proofs.turn.turn_on.Tie as tie
 
@@ -44,17 +46,14 @@ on-error-requires c κs = search needs
 enum-told-5 : tie.Need-enum-told-5
 enum-told-5 c = search needs
 
-is-outstanding-requires-3 : tie.Need-is-outstanding-requires-3
-is-outstanding-requires-3 c κs = search needs
-
-on-error-in-release-requires : tie.Need-on-error-in-release-requires
-on-error-in-release-requires c κs = search needs
+on-release-requires : tie.Need-on-release-requires
+on-release-requires c κs = search needs
 
 enum-told-6 : tie.Need-enum-told-6
 enum-told-6 c = search needs
 
-on-release-requires : tie.Need-on-release-requires
-on-release-requires c κs = search needs
+on-release-requires-2 : tie.Need-on-release-requires-2
+on-release-requires-2 c κs = search needs
 
 enum-told-7 : tie.Need-enum-told-7
 enum-told-7 c = search needs
@@ -95,12 +94,15 @@ returns-4 c =
 
 returns-5 : tie.Need-returns-5
 returns-5 c =
-    let s = c .before .before .before .before .before .before .before .before in
-    let arm = c .before .before .enum-told5 .given .1 in
-    rw arm (c .on-error-in-release .ensures ∙ rw (c .before .is-outstanding3 .ensures, s .stage-of .ensures))
+    let s = c .before .before .before .before .before .before .before in
+    let a = s .before .args in
+    rw (c .before .enum-told5 .given .1)
+    (c .on-release .ensures ∙ ap released (s .stage-of .ensures) ∙ sym (error-in-release (stageOf (a .r)) (isOutstanding (a .r) (a .e .invoke))))
 
 returns-6 : tie.Need-returns-6
-returns-6 c = rw (c .before .enum-told6 .given .1) (c .on-release .ensures)
+returns-6 c =
+    let s = c .before .before .before .before .before .before .before .stage-of .ensures in
+    rw (c .before .enum-told6 .given .1) (c .on-release2 .ensures ∙ ap released s)
 
 returns-7 : tie.Need-returns-7
 returns-7 c = rw (c .before .enum-told7 .given .1) (c .on-answered .ensures)
@@ -128,10 +130,9 @@ turn-on-spec =
     is-outstanding-requires-2
     on-error-requires
     enum-told-5
-    is-outstanding-requires-3
-    on-error-in-release-requires
-    enum-told-6
     on-release-requires
+    enum-told-6
+    on-release-requires-2
     enum-told-7
     on-answered-requires
     enum-told-8

@@ -1,0 +1,151 @@
+-- The picker of a call in state 4 hears once how it came out, and nobody else hears anything: by the four cases of `Stepped`, each from what
+-- one turn sends (`told`, `silent`).
+-- Assumes nothing.
+use mathlib.Core.Path.{_≡_, refl, sym, ap, _∙_}
+use mathlib.Core.Bool.{false, true≢false}
+use mathlib.Core.Logic.{_⊎_, inl, inr, ⊎-elim}
+use Prim.Native.Nat.{ℕ, _<_}
+use native.Mathlib.Omega.{arith}
+use lib.ListN.{length}
+use Rattle.laws.proofs.Bools.{equal-or}
+use Rattle.table.specs.declared.Connection.{Connection}
+use Rattle.table.specs.declared.State.{State}
+use Rattle.table.specs.declared.State.the-variants.{Free, ParkWaiting, LineWaiting, Requested, RemoteRequested, HandedOver}
+use Rattle.table.specs.declared.Side.{Side}
+use Rattle.table.specs.declared.Side.the-variants.{Position, Line}
+use Rattle.table.specs.declared.Record.{Record}
+use Rattle.table.specs.declared.Table.{Table}
+use Rattle.table.specs.Places.{isFree, sideAt, freeRecord, recordAt}
+use Rattle.table.proofs.Keep.{put, put-here, put-other}
+use Rattle.events.specs.declared.Event.{Event}
+use Rattle.events.specs.declared.rule.Rule.{Rule}
+use Rattle.events.specs.declared.rule.Rule.the-variants.{Start, On, Unknown}
+use Rattle.events.specs.declared.rule.Signal.the-variants.{LocalPickup, PickRequest, PickupResult, PickupError, ErrorInRelease, Release, Answered, Expiry}
+use Rattle.events.specs.declared.message.Message.the-variants.{NoMessage}
+use Rattle.events.specs.declared.refusal.Refusal.{Refusal}
+use Rattle.events.specs.declared.refusal.Refusal.the-variants.{UnknownKind, ChoiceOrTimer, CallHeld, SideFull, CallNotHeld, NothingWaits, PickupPending, StateUnfit, NotOutstanding, TimerNotRunning, TableUnsound}
+use Rattle.events.specs.declared.turn.Stage.{Stage}
+use Rattle.events.specs.declared.turn.Stage.the-variants.{Waits, AskedHere, AskedFrom, Taken}
+use Rattle.events.specs.Rule.{ruleOf}
+use Rattle.events.specs.Message.{sent}
+use Rattle.events.specs.Refusal.{refusalMessage}
+use Rattle.events.specs.Reply.{replies, RepliesOnce}
+use Rattle.events.specs.Turn.{stateAt, heldRecord, greeting}
+use Rattle.events.proofs.Replies.{isOut, told, silent}
+use Rattle.step.specs.declared.Step.{Step}
+use Rattle.step.specs.Step.{stepOf}
+use Rattle.step.specs.Promises.{Leaves4, PickerToldOnce, leaves, refused, RepliesHaveCause}
+use Rattle.step.proofs.Stepped.{Stepped, kept, begun, ended, went-on, stepped}
+use Rattle.step.proofs.Promises.{refused-not-0}
+
+free≢remote : Free ≡ RemoteRequested → ⊥
+free≢remote q = let z : _≡_ {A = ℕ} 0 1 = cc q in omega arith
+
+remote-or-not : (s : State) → (s ≡ RemoteRequested) ⊎ (s ≡ RemoteRequested → ⊥)
+remote-or-not Free = inr free≢remote
+remote-or-not ParkWaiting = inr (λ q. let z : _≡_ {A = ℕ} 0 1 = cc q in omega arith)
+remote-or-not LineWaiting = inr (λ q. let z : _≡_ {A = ℕ} 0 1 = cc q in omega arith)
+remote-or-not Requested = inr (λ q. let z : _≡_ {A = ℕ} 0 1 = cc q in omega arith)
+remote-or-not RemoteRequested = inl refl
+remote-or-not HandedOver = inr (λ q. let z : _≡_ {A = ℕ} 0 1 = cc q in omega arith)
+
+-- a call whose picker waits no longer is in another state
+out-left : (a : Side) (g : Stage) → isOut g ≡ false → stateAt a g ≡ RemoteRequested → ⊥
+out-left Position Waits h q = let z : _≡_ {A = ℕ} 0 1 = cc q in omega arith
+out-left Line Waits h q = let z : _≡_ {A = ℕ} 0 1 = cc q in omega arith
+out-left a AskedHere h q = let z : _≡_ {A = ℕ} 0 1 = cc q in omega arith
+out-left a (AskedFrom c) h q = true≢false h
+out-left a Taken h q = let z : _≡_ {A = ℕ} 0 1 = cc q in omega arith
+
+pub greeting-silent : (d : Side) → replies (sent (greeting d)) (sent NoMessage) ≡ 0
+greeting-silent Position = refl
+greeting-silent Line = refl
+
+-- a refusal tells a picker only where a pickrequ is refused
+module _ (c : Connection) where
+  abbrev Quiet : Rule → Refusal → Type 0
+  Quiet k w = replies (sent (refusalMessage k w c)) (sent NoMessage) ≡ 0
+
+  park-quiet : (w : Refusal) → Quiet (Start Position) w
+  park-quiet UnknownKind = refl
+  park-quiet ChoiceOrTimer = refl
+  park-quiet CallHeld = refl
+  park-quiet SideFull = refl
+  park-quiet CallNotHeld = refl
+  park-quiet NothingWaits = refl
+  park-quiet PickupPending = refl
+  park-quiet StateUnfit = refl
+  park-quiet NotOutstanding = refl
+  park-quiet TimerNotRunning = refl
+  park-quiet TableUnsound = refl
+
+  pickrequ-or-quiet : (k : Rule) (w : Refusal) → (k ≡ On PickRequest) ⊎ Quiet k w
+  pickrequ-or-quiet (Start Position) w = inr (park-quiet w)
+  pickrequ-or-quiet (Start Line) w = inr refl
+  pickrequ-or-quiet (On LocalPickup) w = inr refl
+  pickrequ-or-quiet (On PickRequest) w = inl refl
+  pickrequ-or-quiet (On PickupResult) w = inr refl
+  pickrequ-or-quiet (On PickupError) w = inr refl
+  pickrequ-or-quiet (On ErrorInRelease) w = inr refl
+  pickrequ-or-quiet (On Release) w = inr refl
+  pickrequ-or-quiet (On Answered) w = inr refl
+  pickrequ-or-quiet (On Expiry) w = inr refl
+  pickrequ-or-quiet Unknown w = inr refl
+
+module _ (t : Table) (size : length (t .places) ≡ 96) (e : Event) where
+  -- ---- told once
+
+  module _ (j : ℕ) (was : recordAt t j .state ≡ RemoteRequested) where
+    -- a record that is put elsewhere is not why the call at j leaves its state
+    elsewhere : (i : ℕ) → i < 96 → (new : Record) → (j ≡ i → ⊥) → recordAt (put t i new) j .state ≡ RemoteRequested
+    elsewhere i inside new other = ap (λ (r : Record). r .state) (put-other t size i inside new j other) ∙ was
+
+    once : (s : Step) → Stepped t size e s → (recordAt (s .table) j .state ≡ RemoteRequested → ⊥) → RepliesOnce (recordAt t j .connection) (s .answer .first) (s .answer .second)
+    once s (kept w) left = absurd (left was)
+    once s (begun d i sound rule room) left =
+        ⊎-elim (λ same. absurd (true≢false (sym (room .vacant) ∙ ap isFree (ap (λ (k : ℕ). recordAt t k .state) (sym same) ∙ was))))
+        (λ other. absurd (left (elsewhere i (room .inside) _ other))) (equal-or j i)
+    once s (ended k i first second at turn) left =
+        ⊎-elim (λ same. let h = told k (sideAt j) (recordAt t j) e was in rw same (rw turn at (rw same at h)))
+        (λ other. absurd (left (elsewhere i (at .inside) _ other))) (equal-or j i)
+    once s (went-on k i g n m at turn) left =
+        ⊎-elim (λ same. let h = told k (sideAt j) (recordAt t j) e was in rw same ((rw turn at (rw same at h)) .0))
+        (λ other. absurd (left (elsewhere i (at .inside) _ other))) (equal-or j i)
+
+  -- ---- and not otherwise
+
+  abbrev CauseOf : Step → Type 0
+  CauseOf s = ((j : ℕ) × (j < 96) × Leaves4 t (s .table) j) ⊎ ((s .answer .number ≡ 0 → ⊥) × (ruleOf (e .kind) ≡ On PickRequest))
+
+  cause : (s : Step) → Stepped t size e s → (replies (s .answer .first) (s .answer .second) ≡ 0 → ⊥) → CauseOf s
+  cause s (kept w) some = ⊎-elim (λ rule. inr (refused-not-0 w, rule)) (λ quiet. absurd (some quiet)) (pickrequ-or-quiet (e .connection) (ruleOf (e .kind)) w)
+  cause s (begun d i sound rule room) some = absurd (some (greeting-silent d))
+  cause s (ended k i first second at turn) some =
+      ⊎-elim (λ was. inl (
+        i,
+        at .inside,
+        record {
+          was = was;
+          is-not = λ q. free≢remote (sym (ap (λ (r : Record). r .state) (put-here t size i (at .inside) freeRecord)) ∙ q);
+        },
+      ))
+      (λ other. absurd (some (rw turn at (silent k (sideAt i) (recordAt t i) e other)))) (remote-or-not (recordAt t i .state))
+  cause s (went-on k i g n m at turn) some =
+      ⊎-elim (λ was. inl (
+        i,
+        at .inside,
+        record {
+          was = was;
+          is-not = λ q.
+              out-left (sideAt i) g ((rw turn at (told k (sideAt i) (recordAt t i) e was)) .1)
+              (sym (ap (λ (r : Record). r .state) (put-here t size i (at .inside) (heldRecord (sideAt i) g (recordAt t i .call) n))) ∙ q);
+        },
+      ))
+      (λ other. absurd (some (rw turn at (silent k (sideAt i) (recordAt t i) e other)))) (remote-or-not (recordAt t i .state))
+
+pub picker-told-once : PickerToldOnce
+picker-told-once t e j size left = once t size e j (left .was) (stepOf t e) (stepped t size e) (left .is-not)
+
+pub replies-have-cause : RepliesHaveCause
+replies-have-cause t e size some =
+    ⊎-elim (λ x. leaves (x .0) (x .1) (x .2)) (λ x. refused (x .0) (x .1)) (cause t size e (stepOf t e) (stepped t size e) some)
