@@ -1,5 +1,5 @@
--- A call in state 4 has a picker who waits for a reply: a signal that takes the call out of that state sends just one, to that picker, and
--- no signal leaves the call there. At a call in another state no signal sends a reply.
+-- A call in state 4 has a picker who waits for a reply: a signal that is accepted there sends just one, to that picker, and takes the call out
+-- of that state. At a call in another state no signal sends a reply.
 -- Assumes nothing.
 use mathlib.Core.Path.{_≡_, refl}
 use mathlib.Core.Bool.{Bool, true, false, cond, true≢false, false≢true}
@@ -34,16 +34,16 @@ isOut AskedHere = false
 isOut (AskedFrom c) = true
 isOut Taken = false
 
--- what an outcome at a call in state 4 does: nothing, or one reply, and the picker waits no longer
+-- what an outcome at a call in state 4 does: it is a refusal, or sends one reply, and the picker waits no longer
 abbrev pub Told : Connection → Outcome → Type 0
 Told c (Refused w) = Unit {0}
-Told c (Freed m n) = RepliesOnce c (sent m) (sent n)
+Told c (Freed first second) = RepliesOnce c (sent first) (sent second)
 Told c (Becomes g n m) = RepliesOnce c (sent m) (sent NoMessage) × (isOut g ≡ false)
 
--- and at any other call
+-- and at any other call: it sends none
 abbrev pub Silent : Outcome → Type 0
 Silent (Refused w) = Unit {0}
-Silent (Freed m n) = replies (sent m) (sent n) ≡ 0
+Silent (Freed first second) = replies (sent first) (sent second) ≡ 0
 Silent (Becomes g n m) = replies (sent m) (sent NoMessage) ≡ 0
 
 module _ (c : Connection) where

@@ -17,6 +17,7 @@ use Rattle.table.specs.declared.Record.{Record}
 use Rattle.table.specs.Places.{isFree, sideAt}
 use Rattle.table.specs.Search.{every}
 use Rattle.table.specs.Sound.{fitsSide, allZeros, tidyIn, placeSound}
+use Rattle.table.proofs.Facts.{free-fits}
 use Rattle.image.specs.Image.{stateOf, pairAt, recordFrom, recordsFrom, statesFit}
 use Rattle.image.specs.Quick.{stateAt, placeFits}
 use Rattle.image.proofs.Fills.{states-step, records-step}
@@ -28,10 +29,6 @@ position i h = rw (lt-ltb i 96 (omega arith), le-ltb (i + 1) 1 (omega arith), lt
 line : (i : ℕ) → 64 ≤ i → i < 96 → sideAt i ≡ Line
 line i h l =
     rw (lt-ltb i 96 l, le-ltb (i + 1) 1 (omega arith), le-ltb (i + 1) 65 (omega arith), lt-ltb (i + 1) 97 (omega arith))
-
-free-fits : (a : Side) → fitsSide a Free ≡ true
-free-fits Position = refl
-free-fits Line = refl
 
 remote-fits : (a : Side) → fitsSide a RemoteRequested ≡ true
 remote-fits Position = refl

@@ -1,9 +1,7 @@
--- Lists of numbers as loops and writers see them: one turn over a slice, a part of a slice that runs to its end, runs of stores (`sets`) at
--- an index that moves on, and a text that is written part by part (`Writing`). A run is joined to the next one by `sets-append`. Of a text, what
--- has been written and what is left make the whole; the part written next is at the front of what is left, so that there is room for it
--- wherever there is room for the whole.
+-- Lists of numbers as loops and writers see them: one turn over a slice, a part of a slice that runs to its end, and runs of stores (`sets`) at
+-- an index that moves on. A run is joined to the next one by `sets-append`.
 -- Assumes nothing.
-use mathlib.Core.Path.{_≡_, refl, sym, ap, ap₂, _∙_}
+use mathlib.Core.Path.{_≡_, sym, ap, ap₂, _∙_}
 use mathlib.Core.List.{List, [], _∷_, _++_, map, append-assoc, append-nil}
 use Prim.Native.Nat.{ℕ, suc, _+_, _-_, _≤_, _<_}
 use native.Mathlib.Nat.{add-zero}
@@ -87,53 +85,3 @@ sets-over p q u f i e n =
 -- d is l with a run written from i on
 pub sets-length : (l d f : List ℕ) (i : ℕ) → d ≡ sets l i f → length d ≡ length l
 sets-length l d f i h = ap length h ∙ length-sets l i f
-
--- d is l with the front of a whole text written from its start; p is the index after it, and rest what is left of the text
-pub record Writing (l whole rest : List ℕ) (p : ℕ) (d : List ℕ) : Type 0 where
-  pub done : List ℕ
-  pub split : done ++ rest ≡ whole
-  pub place : p ≡ length done
-  pub text : d ≡ sets l 0 done
-  pub room : length d ≡ length l
-
-pub writing-none : (l whole : List ℕ) → Writing l whole whole 0 l
-writing-none l whole = record { done = []; split = refl; place = refl; text = refl; room = refl }
-
-module _ {l whole d : List ℕ} {p : ℕ} (f : List ℕ) where
-  -- the last part
-  pub writing-last : {d′ : List ℕ} {p′ : ℕ} → Writing l whole f p d → p′ ≡ p + length f → d′ ≡ sets d p f → Writing l whole [] p′ d′
-  writing-last {d′} {p′} w e h =
-      record {
-        done = w .done ++ f;
-        split = append-nil (w .done ++ f) ∙ w .split;
-        place = omega (arith, w .place, length-append (w .done) f);
-        text = h ∙ sets-on (w .done) f l d 0 p (omega (arith, w .place)) (w .text);
-        room = sets-length d d′ f p h ∙ w .room;
-      }
-
-  pub last-room : Writing l whole f p d → length whole ≤ length l → p + length f ≤ length d
-  last-room w h = omega (arith, w .place, w .room, ap length (w .split), length-append (w .done) f)
-
-  -- a part and the octet that ends it
-  pub writing-on : (x : ℕ) (rest : List ℕ) {d′ : List ℕ} {p′ : ℕ} → Writing l whole (f ++ (x ∷ rest)) p d → p′ ≡ p + (length f + 1)
-      → d′ ≡ sets d p (f ++ (x ∷ [])) → Writing l whole rest p′ d′
-  writing-on x rest {d′} {p′} w e h =
-      record {
-        done = w .done ++ (f ++ (x ∷ []));
-        split = append-assoc (w .done) (f ++ (x ∷ [])) rest
-            ∙ ap (λ (s : List ℕ). w .done ++ s) (append-assoc f (x ∷ []) rest)
-            ∙ w .split;
-        place = omega (arith, w .place, length-append (w .done) (f ++ (x ∷ [])), length-snoc f x);
-        text = h ∙ sets-on (w .done) (f ++ (x ∷ [])) l d 0 p (omega (arith, w .place)) (w .text);
-        room = sets-length d d′ (f ++ (x ∷ [])) p h ∙ w .room;
-      }
-
-  pub on-room : (x : ℕ) (rest : List ℕ) → Writing l whole (f ++ (x ∷ rest)) p d → length whole ≤ length l → p + length f < length d
-  on-room x rest w h =
-      omega (arith, w .place, w .room, ap length (w .split), length-append (w .done) (f ++ (x ∷ rest)), length-append f (x ∷ rest))
-
--- all of it
-pub writing-all : {l whole d : List ℕ} {p : ℕ} → Writing l whole [] p d → (p ≡ length whole) × (d ≡ sets l 0 whole)
-writing-all {l} w =
-    let e = sym (append-nil (w .done)) ∙ w .split in
-    (w .place ∙ ap length e, w .text ∙ ap (sets l 0) e)

@@ -200,6 +200,3 @@ digits-twenty (suc k) v = go (ltb v 10) (digits-twenty k (v / 10))
 pub decimal-twenty : (v : ℕ) → length (decimal v) ≤ 20
 unfolding decimal
 decimal-twenty v = digits-twenty 19 v
-
-pub few-digits : (r v : ℕ) → r ≡ length (decimal v) → r ≤ 20
-few-digits r v e = omega (arith, decimal-twenty v)

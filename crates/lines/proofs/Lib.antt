@@ -6,6 +6,7 @@ pub mod Joined
 pub mod Decimal
 pub mod Hexadecimal
 pub mod Lengths
+pub mod Written
 pub mod Rests
 pub mod Round
 pub mod ReadCalls

@@ -5,6 +5,7 @@
 use mathlib.Core.Path.{_≡_, refl, sym, ap, _∙_, subst}
 use mathlib.Core.Bool.{Bool, true, false, cond}
 use mathlib.Core.List.{List, [], _∷_, _++_, append-assoc, append-nil}
+use mathlib.Core.Logic.{⊎-elim}
 use Prim.Native.Nat.{ℕ}
 use native.Mathlib.Omega.{arith}
 use lib.Dec.{eqb}
@@ -23,7 +24,7 @@ use Rattle.events.specs.declared.rule.Signal.{Signal}
 use Rattle.events.specs.declared.rule.Signal.the-variants.{LocalPickup, PickRequest, PickupResult, PickupError, ErrorInRelease, Release, Answered, Expiry}
 use Rattle.events.specs.declared.message.Message.{Message}
 use Rattle.events.specs.declared.message.Message.the-variants.{Connect, Facility, PickResult}
-use Rattle.events.specs.declared.refusal.Refusal.the-variants.{NotOutstanding, TimerNotRunning}
+use Rattle.events.specs.declared.refusal.Refusal.the-variants.{TimerNotRunning}
 use Rattle.events.specs.declared.turn.Stage.{Stage}
 use Rattle.events.specs.declared.turn.Stage.the-variants.{Waits, AskedHere, AskedFrom, Taken}
 use Rattle.events.specs.declared.turn.Outcome.the-variants.{Refused, Freed, Becomes}
@@ -32,6 +33,7 @@ use Rattle.events.specs.Turn.{stageOf, stateAt, connectionAt, up, pickedUp, isO
 use Rattle.events.specs.Reply.{replies, RepliesOnce}
 use Rattle.events.proofs.Released.{error-in-release}
 use Rattle.events.proofs.Replies.{told, silent}
+use Rattle.step.proofs.Turns.{result-in-4}
 use Rattle.step.proofs.Pickers.{greeting-silent}
 use Rattle.stays.specs.ParkTable.{machine}
 use Rattle.stays.specs.Demand.{Act, LastRequest, asks, stateAfter, TellsRequester, AllTell, TellsItsRequester}
@@ -96,8 +98,6 @@ module _ (g : Stage) (n : Invoke) (m : Message) where
       by true false h = let z : _≡_ {A = ℕ} 0 1 = cc h in omega arith
       by false y h = let z : _≡_ {A = ℕ} 0 1 = cc h in omega arith
 
--- ---- a result in state 4
-
 state-4 : (s : State) → stateNumber s ≡ 4 → s ≡ RemoteRequested
 state-4 Free h = absurd (omega arith)
 state-4 ParkWaiting h = absurd (omega arith)
@@ -105,21 +105,6 @@ state-4 LineWaiting h = absurd (omega arith)
 state-4 Requested h = absurd (omega arith)
 state-4 RemoteRequested h = refl
 state-4 HandedOver h = absurd (omega arith)
-
-module _ (a : Side) (r : Record) (e : Event) (remote : r .state ≡ RemoteRequested) where
-  not-freed : (first second : Message) → turnOn PickupResult a r e ≡ Freed first second → ⊥
-  not-freed first second t = by (isOutstanding r (e .invoke)) (rw remote at t)
-    where
-      by : (b : Bool) → cond b (Becomes Taken (r .count) (PickResult (r .connection))) (Refused NotOutstanding) ≡ Freed first second → ⊥
-      by true h = let z : _≡_ {A = ℕ} 0 1 = cc h in omega arith
-      by false h = let z : _≡_ {A = ℕ} 0 1 = cc h in omega arith
-
-  says : (g : Stage) (n : Invoke) (m : Message) → turnOn PickupResult a r e ≡ Becomes g n m → m ≡ PickResult (r .connection)
-  says g n m t = by (isOutstanding r (e .invoke)) (rw remote at t)
-    where
-      by : (b : Bool) → cond b (Becomes Taken (r .count) (PickResult (r .connection))) (Refused NotOutstanding) ≡ Becomes g n m → m ≡ PickResult (r .connection)
-      by true h = cc h
-      by false h = absurd (let z : _≡_ {A = ℕ} 0 1 = cc h in omega arith)
 
 -- ---- one turn
 
@@ -138,11 +123,15 @@ module _ {p : ℕ} {r : Record} {e : Event} where
   told-result (opened d o) q rule = absurd (let z : _≡_ {A = ℕ} 0 1 = cc (sym (o .rule) ∙ rule) in omega arith)
   told-result (closed k first second h t) q rule =
       let same : k ≡ PickupResult = one-signal (h .rule) rule in
-      absurd (not-freed (sideAt p) r e (state-4 (r .state) q) first second (rw same at t))
+      let five : turnOn PickupResult (sideAt p) r e ≡ Freed first second = rw same at t in
+      ⊎-elim (λ w. absurd (let z : _≡_ {A = ℕ} 0 1 = cc (sym five ∙ w) in omega arith)) (λ w. absurd (let z : _≡_ {A = ℕ} 0 1 = cc (sym five ∙ w) in omega arith))
+      (result-in-4 (sideAt p) r e (state-4 (r .state) q))
   told-result (carried k g n m h t) q rule =
       let same : k ≡ PickupResult = one-signal (h .rule) rule in
-      let said : m ≡ PickResult (r .connection) = says (sideAt p) r e (state-4 (r .state) q) g n m (rw same at t) in
-      rw said
+      let five : turnOn PickupResult (sideAt p) r e ≡ Becomes g n m = rw same at t in
+      ⊎-elim (λ w. absurd (let z : _≡_ {A = ℕ} 0 1 = cc (sym five ∙ w) in omega arith))
+      (λ w. let said : m ≡ PickResult (r .connection) = cc (sym five ∙ w) in rw said)
+      (result-in-4 (sideAt p) r e (state-4 (r .state) q))
 
   told-nothing : {a : Answer} {s : Record} → Turned p r e a s → (stateNumber (r .state) ≡ 4 → ⊥) → replies (a .first) (a .second) ≡ 0
   told-nothing (opened d o) other = greeting-silent d

@@ -22,7 +22,7 @@ use Rattle.table.specs.Search.{holds, findCall}
 use Rattle.table.specs.Sound.{isSound, fitsSide, Sound}
 use Rattle.table.proofs.Calls.{holds-same, holds-occupied, occupied-holds}
 use Rattle.table.proofs.Searches.{found-passes, none-passes}
-use Rattle.table.proofs.Facts.{facts-of-test, test-of-facts, free-state}
+use Rattle.table.proofs.Facts.{facts-of-test, test-of-facts, free-state, free-fits}
 use Rattle.table.proofs.Keep.{put, put-size, put-here, put-other, put-sound}
 use Rattle.events.specs.declared.Event.{Event}
 use Rattle.step.specs.declared.Step.{Step}
@@ -42,14 +42,14 @@ use Rattle.step.specs.declared.aim.Aim.{Aim}
 use Rattle.step.specs.declared.aim.Aim.the-variants.{To, Nowhere}
 use Rattle.events.specs.Rule.{ruleOf}
 use Rattle.events.specs.Refusal.{refusalNumber}
-use Rattle.events.specs.Turn.{heldRecord, stageOf, greeting, isOutstanding, ifOutstanding, toPicker, turnOn, turn}
+use Rattle.events.specs.Turn.{heldRecord, stageOf, greeting, isOutstanding, toPicker, turnOn, turn}
 use Rattle.step.specs.Aim.{aim, aimAt, aimNamed, aimOn, nextWaiting}
 use Rattle.events.specs.Act.{stayCall}
 use Rattle.events.proofs.Released.{error-in-release}
 use Rattle.step.specs.Step.{refusedBy, done, settled, carriedOut, stepOf}
 use Rattle.step.specs.Promises.{IsAccepted, KeepsSound, RefusalKeeps, Move, starts, AtOnePlace, AcceptedAtOnePlace, one-if, T3RunsThrough, namesCall, byName, MatchedByCall, NotHeldIs5, StartAnswersItsCall, onlyNamed, IgnoresOtherFields, ReleaseFrees, RemoteResultHolds}
 use Rattle.step.proofs.Aims.{aim-on, aim-lost, free-number}
-use Rattle.step.proofs.Turns.{stage-fits, free-fits, waiting-offered, stage-occupied, stage-connection, move-end, move-on}
+use Rattle.step.proofs.Turns.{stage-fits, waiting-offered, stage-occupied, stage-connection, move-end, move-on, result-in-4}
 use Rattle.step.proofs.Timers.{t3-started}
 use Rattle.step.proofs.Stepped.{Reached, Stepped, kept, begun, ended, went-on, refused-stays, stepped}
 
@@ -278,16 +278,6 @@ module _ (t : Table) (size : length (t .places) ≡ 96) (e : Event) where
     result-signal : (k : Signal) (i : ℕ) → Reached t e k i → k ≡ PickupResult
     result-signal k i at = let five : ruleOf (e .kind) ≡ On PickupResult = rw kind in let both : On k ≡ On PickupResult = sym (at .rule) ∙ five in cc both
 
-    -- what a turn by a result in state 4 comes to
-    remote-turn : (r : Record) (a : Side) → r .state ≡ RemoteRequested
-        → (turnOn PickupResult a r e ≡ Refused NotOutstanding) ⊎ (turnOn PickupResult a r e ≡ Becomes Taken (r .count) (PickResult (r .connection)))
-    remote-turn r a q = rw q (by (isOutstanding r (e .invoke)))
-      where
-        by : (b : Bool) → (ifOutstanding b (Becomes Taken (r .count) (PickResult (r .connection))) ≡ Refused NotOutstanding)
-            ⊎ (ifOutstanding b (Becomes Taken (r .count) (PickResult (r .connection))) ≡ Becomes Taken (r .count) (PickResult (r .connection)))
-        by true = inr refl
-        by false = inl refl
-
     abbrev Holding : Step → Type 0
     Holding s = (x : AtOnePlace t s) → recordAt t (x .index) .state ≡ RemoteRequested
         → (s .answer .state ≡ 5) × (s .answer .first .message ≡ 5) × (s .answer .first .connection ≡ recordAt t (x .index) .connection)
@@ -301,7 +291,7 @@ module _ (t : Table) (size : length (t .places) ≡ 96) (e : Event) where
         let k-is = result-signal k i at in
         let t5 : turnOn PickupResult (sideAt i) (recordAt t i) e ≡ Freed first second = rw k-is at turn in
         ⊎-elim (λ g. absurd (let z : _≡_ {A = ℕ} 0 1 = cc (sym t5 ∙ g) in omega arith)) (λ g. absurd (let z : _≡_ {A = ℕ} 0 1 = cc (sym t5 ∙ g) in omega arith))
-        (remote-turn (recordAt t i) (sideAt i) (rw same at q))
+        (result-in-4 (sideAt i) (recordAt t i) e (rw same at q))
     holding s (went-on k i g n m at turn) h x q =
         let same : x .index ≡ i = sym (same-index i (x .index) (at .inside) (x .inside) (x .place)) in
         let k-is = result-signal k i at in
@@ -312,7 +302,7 @@ module _ (t : Table) (size : length (t .places) ≡ 96) (e : Event) where
         let stage : g ≡ Taken = cc both in
         let said : m ≡ PickResult (recordAt t i .connection) = cc both in
         rw (stage, said, same) (refl, refl, refl))
-        (remote-turn (recordAt t i) (sideAt i) (rw same at q))
+        (result-in-4 (sideAt i) (recordAt t i) e (rw same at q))
 
 pub keeps-sound : KeepsSound
 keeps-sound t e size sound =

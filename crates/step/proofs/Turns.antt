@@ -1,7 +1,8 @@
--- One record: what the record of a stage is like, and that a turn which goes on is one of the five moves.
+-- One record: what the record of a stage is like, that a turn which goes on is one of the five moves, and what a result does in state 4.
 -- Assumes nothing.
 use mathlib.Core.Path.{_≡_, refl}
 use mathlib.Core.Bool.{Bool, true, false, cond, true≢false}
+use mathlib.Core.Logic.{_⊎_, inl, inr}
 use Prim.Native.Nat.{ℕ}
 use native.Mathlib.Omega.{arith}
 use lib.Dec.{eqb}
@@ -18,11 +19,12 @@ use Rattle.events.specs.declared.Event.{Event}
 use Rattle.events.specs.declared.rule.Signal.{Signal}
 use Rattle.events.specs.declared.rule.Signal.the-variants.{LocalPickup, PickRequest, PickupResult, PickupError, ErrorInRelease, Release, Answered, Expiry}
 use Rattle.events.specs.declared.message.Message.{Message}
-use Rattle.events.specs.declared.refusal.Refusal.the-variants.{StateUnfit, TimerNotRunning}
+use Rattle.events.specs.declared.message.Message.the-variants.{PickResult}
+use Rattle.events.specs.declared.refusal.Refusal.the-variants.{StateUnfit, NotOutstanding, TimerNotRunning}
 use Rattle.events.specs.declared.turn.Stage.{Stage}
 use Rattle.events.specs.declared.turn.Stage.the-variants.{Waits, AskedHere, AskedFrom, Taken}
 use Rattle.events.specs.declared.turn.Outcome.the-variants.{Refused, Becomes}
-use Rattle.events.specs.Turn.{stateAt, connectionAt, runs, timedOut, turnOn}
+use Rattle.events.specs.Turn.{stateAt, connectionAt, isOutstanding, ifOutstanding, runs, timedOut, turnOn}
 use Rattle.step.specs.Promises.{offered, Move, goes-on, hands-over, ends, is-left}
 
 pub stage-fits : (a : Side) (g : Stage) → fitsSide a (stateAt a g) ≡ true
@@ -34,10 +36,6 @@ stage-fits Position (AskedFrom c) = refl
 stage-fits Line (AskedFrom c) = refl
 stage-fits Position Taken = refl
 stage-fits Line Taken = refl
-
-pub free-fits : (a : Side) → fitsSide a Free ≡ true
-free-fits Position = refl
-free-fits Line = refl
 
 pub waiting-offered : (a : Side) → offered (waitingOn a) ≡ true
 waiting-offered Position = refl
@@ -102,3 +100,14 @@ move-on k a r e g n m f h = move-stage a g (by (r .state) refl f)
     by Requested q w = refl
     by RemoteRequested q w = refl
     by HandedOver q w = absurd (taken-ends k a r e g n m q h)
+
+-- ---- a result in state 4
+
+pub result-in-4 : (a : Side) (r : Record) (e : Event) → r .state ≡ RemoteRequested
+    → (turnOn PickupResult a r e ≡ Refused NotOutstanding) ⊎ (turnOn PickupResult a r e ≡ Becomes Taken (r .count) (PickResult (r .connection)))
+result-in-4 a r e q = rw q (by (isOutstanding r (e .invoke)))
+  where
+    by : (b : Bool) → (ifOutstanding b (Becomes Taken (r .count) (PickResult (r .connection))) ≡ Refused NotOutstanding)
+        ⊎ (ifOutstanding b (Becomes Taken (r .count) (PickResult (r .connection))) ≡ Becomes Taken (r .count) (PickResult (r .connection)))
+    by true = inr refl
+    by false = inl refl

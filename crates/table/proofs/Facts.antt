@@ -2,15 +2,15 @@
 -- says of a list is turned into what it says of each index, and each test into its fact.
 -- Assumes nothing.
 use mathlib.Core.Path.{_≡_, refl, sym, ap, _∙_}
-use mathlib.Core.Bool.{Bool, true, false, not, _&&_}
+use mathlib.Core.Bool.{Bool, true, false, not}
 use mathlib.Core.List.{List, [], _∷_}
 use mathlib.Core.Logic.{_↔_, ⊎-elim}
-use Prim.Native.Nat.{ℕ, zero, suc, _+_, _-_, _<_, _≤_}
+use Prim.Native.Nat.{ℕ, zero, suc, _+_, _-_, _<_}
 use native.Mathlib.Nat.{add-zero, zero-add, not-suc-le-zero, le-of-suc-le-suc}
 use native.Mathlib.Omega.{arith}
 use lib.Dec.{eqb}
-use borrow.Author.Tests.{eqb-true, eq-eqb, not-true, not-false}
-use lib.ListN.{length, drop, getD, replicate, length-drop, getD-replicate, length-replicate}
+use borrow.Author.Tests.{eqb-true, eq-eqb, not-true}
+use lib.ListN.{length, drop, getD, length-drop}
 use lib.Seq.{getD-drop}
 use Rattle.laws.proofs.Bools.{never, and-left, and-right, and-both, not-both, less-or}
 use Rattle.table.specs.declared.State.{State}
@@ -22,7 +22,7 @@ use Rattle.table.specs.declared.Table.{Table}
 use Rattle.table.specs.Places.{stateNumber, isFree, sideAt, noCall, noConnection, freeRecord, emptyTable, blank, recordAt}
 use Rattle.table.specs.Search.{sameCall, holds, every}
 use Rattle.table.specs.Sound.{fitsSide, allZeros, tidyIn, clash, unlike, placeSound, apartFromLater, isSound, Sound}
-use Rattle.table.proofs.Calls.{same-self, same-is, holds-occupied, holds-same, occupied-holds}
+use Rattle.table.proofs.Calls.{same-is, holds-occupied, holds-same, occupied-holds}
 
 -- ---- every record of a list, by its index
 
@@ -42,6 +42,11 @@ every-make p i (r ∷ rs) f =
     (every-make p (i + 1) rs (λ k h. let at : i + 1 + k ≡ i + suc k = omega arith in rw at (f (suc k) (omega arith))))
 
 -- ---- a tidy record
+
+-- state 0 is a state of either side
+pub free-fits : (a : Side) → fitsSide a Free ≡ true
+free-fits Position = refl
+free-fits Line = refl
 
 pub free-state : (s : State) → isFree s ≡ true → s ≡ Free
 free-state Free h = refl

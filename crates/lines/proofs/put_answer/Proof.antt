@@ -1,190 +1,161 @@
--- After each call the line is written up to a field or to a message, and what is left starts with the next one.
+-- The eight texts make one (`tab-then`), and there is room for each of them since there is room for the line.
 -- Assumes nothing.
 use mathlib.Core.Path.{_≡_}
-use mathlib.Core.List.{List, [], _∷_, _++_}
-use Prim.Native.Nat.{ℕ}
 use native.Mathlib.Omega.{arith}
 use lib.ListN.{length}
 use borrow.Author.Needs.{needs}
-use Rattle.laws.proofs.Runs.{Writing, writing-none, writing-on, on-room, writing-all}
-use Rattle.events.specs.declared.Answer.{Answer}
+use Rattle.laws.proofs.Runs.{sets-length}
 use Rattle.lines.specs.Numbers.{decimal}
 use Rattle.lines.specs.Calls.{hexOf}
-use Rattle.lines.specs.EventLine.{joined}
 use Rattle.lines.specs.AnswerLine.{sentLine, answerLine}
-use Rattle.lines.proofs.Lengths.{length-call}
+use Rattle.lines.proofs.Lengths.{length-call, length-answer}
+use Rattle.lines.proofs.Written.{Written, with-end, tab-then}
 use Rattle.lines.proofs.put_answer.Statement.{statement}
 use Rattle.lines.proofs.put_answer.Tie as tie
 
--- what is left of the line from its last part on, from the part before it on, and so on
-abbrev left8 : Answer → List ℕ
-left8 a = sentLine (a .second) ++ (10 ∷ [])
+-- the place after the call before, and the start
+abbrev by8 : tie.After-put-sent2 → tie.After-put-number-and5
+by8 c = c .before .before .before .before
 
-abbrev left7 : Answer → List ℕ
-left7 a = joined (decimal (a .stopped)) (left8 a)
+abbrev by7 : tie.After-put-number-and5 → tie.After-put-number-and4
+by7 c = c .before .before .before .before .before
 
-abbrev left6 : Answer → List ℕ
-left6 a = joined (decimal (a .started)) (left7 a)
+abbrev by6 : tie.After-put-number-and4 → tie.After-put-sent
+by6 c = c .before .before .before .before .before
 
-abbrev left5 : Answer → List ℕ
-left5 a = joined (sentLine (a .first)) (left6 a)
+abbrev by5 : tie.After-put-sent → tie.After-put-number-and3
+by5 c = c .before .before .before .before
 
-abbrev left4 : Answer → List ℕ
-left4 a = joined (decimal (a .state)) (left5 a)
+abbrev by4 : tie.After-put-number-and3 → tie.After-put-number-and2
+by4 c = c .before .before .before .before .before
 
-abbrev left3 : Answer → List ℕ
-left3 a = joined (decimal (a .place .0)) (left4 a)
+abbrev by3 : tie.After-put-number-and2 → tie.After-put-call-tab
+by3 c = c .before .before .before .before .before
 
-abbrev left2 : Answer → List ℕ
-left2 a = joined (hexOf (a .call)) (left3 a)
+abbrev by2 : tie.After-put-call-tab → tie.After-put-number-and
+by2 c = c .before .before .before .before
 
--- the start, from the place after each call
-abbrev S1 : tie.After-put-number-and → tie.Start
-S1 c = c .before .before .before .before .before
+abbrev by1 : tie.After-put-number-and → tie.Start
+by1 c = c .before .before .before .before .before
 
-abbrev S2 : tie.After-put-call-tab → tie.Start
-S2 c = S1 (c .before .before .before .before)
+abbrev start : tie.After-put-sent2 → tie.Start
+start c = by1 (by2 (by3 (by4 (by5 (by6 (by7 (by8 c)))))))
 
-abbrev S3 : tie.After-put-number-and2 → tie.Start
-S3 c = S2 (c .before .before .before .before .before)
-
-abbrev S4 : tie.After-put-number-and3 → tie.Start
-S4 c = S3 (c .before .before .before .before .before)
-
-abbrev S5 : tie.After-put-sent → tie.Start
-S5 c = S4 (c .before .before .before .before)
-
-abbrev S6 : tie.After-put-number-and4 → tie.Start
-S6 c = S5 (c .before .before .before .before .before)
-
-abbrev S7 : tie.After-put-number-and5 → tie.Start
-S7 c = S6 (c .before .before .before .before .before)
-
-abbrev S8 : tie.After-put-sent2 → tie.Start
-S8 c = S7 (c .before .before .before .before)
-
-abbrev Wrote : tie.Start → List ℕ → ℕ → List ℕ → Type 0
-Wrote c rest p d = Writing (c .args .out .now) (answerLine (c .args .a)) rest p d
-
-long : (c : tie.Start) → length (hexOf (c .args .a .call)) ≡ 32
-long c = length-call (c .args .a .call) (search needs)
-
-written1 : (c : tie.After-put-number-and) → Wrote (S1 c) (left2 (S1 c .args .a)) (c .put-number-and .result) (c .put-number-and .last .0)
-unfolding answerLine
-written1 c =
-    let a = S1 c .args .a in
-    writing-on (decimal (a .number)) 9 (left2 a) (writing-none (S1 c .args .out .now) (answerLine a))
-    (c .put-number-and .ensures .0) (c .put-number-and .ensures .1)
-
-written2 : (c : tie.After-put-call-tab) → Wrote (S2 c) (left3 (S2 c .args .a)) (c .put-call-tab .result) (c .put-call-tab .last .0)
-written2 c =
-    let a = S2 c .args .a in
-    writing-on (hexOf (a .call)) 9 (left3 a) (written1 (c .before .before .before .before))
-    (omega (arith, c .put-call-tab .ensures .0, long (S2 c))) (c .put-call-tab .ensures .1)
-
-written3 : (c : tie.After-put-number-and2) → Wrote (S3 c) (left4 (S3 c .args .a)) (c .put-number-and2 .result) (c .put-number-and2 .last .0)
-written3 c =
-    let a = S3 c .args .a in
-    writing-on (decimal (a .place .0)) 9 (left4 a) (written2 (c .before .before .before .before .before)) (c .put-number-and2 .ensures .0)
-    (c .put-number-and2 .ensures .1)
-
-written4 : (c : tie.After-put-number-and3) → Wrote (S4 c) (left5 (S4 c .args .a)) (c .put-number-and3 .result) (c .put-number-and3 .last .0)
-written4 c =
-    let a = S4 c .args .a in
-    writing-on (decimal (a .state)) 9 (left5 a) (written3 (c .before .before .before .before .before)) (c .put-number-and3 .ensures .0)
-    (c .put-number-and3 .ensures .1)
-
-written5 : (c : tie.After-put-sent) → Wrote (S5 c) (left6 (S5 c .args .a)) (c .put-sent .result) (c .put-sent .last .0)
-written5 c =
-    let a = S5 c .args .a in
-    writing-on (sentLine (a .first)) 9 (left6 a) (written4 (c .before .before .before .before)) (c .put-sent .ensures .0) (c .put-sent .ensures .1)
-
-written6 : (c : tie.After-put-number-and4) → Wrote (S6 c) (left7 (S6 c .args .a)) (c .put-number-and4 .result) (c .put-number-and4 .last .0)
-written6 c =
-    let a = S6 c .args .a in
-    writing-on (decimal (a .started)) 9 (left7 a) (written5 (c .before .before .before .before .before)) (c .put-number-and4 .ensures .0)
-    (c .put-number-and4 .ensures .1)
-
-written7 : (c : tie.After-put-number-and5) → Wrote (S7 c) (left8 (S7 c .args .a)) (c .put-number-and5 .result) (c .put-number-and5 .last .0)
-written7 c =
-    let a = S7 c .args .a in
-    writing-on (decimal (a .stopped)) 9 (left8 a) (written6 (c .before .before .before .before .before)) (c .put-number-and5 .ensures .0)
-    (c .put-number-and5 .ensures .1)
-
-written8 : (c : tie.After-put-sent2) → Wrote (S8 c) [] (c .put-sent2 .result) (c .put-sent2 .last .0)
-written8 c =
-    let a = S8 c .args .a in
-    writing-on (sentLine (a .second)) 10 [] (written7 (c .before .before .before .before)) (c .put-sent2 .ensures .0) (c .put-sent2 .ensures .1)
+long : (c : tie.Start) → length (c .args .a .call) ≡ 16
+long c = search needs
 
 cast-put-number-and : tie.Need-cast-put-number-and
 cast-put-number-and c = search needs
 
 put-number-and-requires : tie.Need-put-number-and-requires
-unfolding answerLine
 put-number-and-requires c κs =
     let s = c .before .before .before .before in
-    let a = s .args .a in
-    on-room (decimal (a .number)) 9 (left2 a) (writing-none (s .args .out .now) (answerLine a)) (s .pre)
+    omega (arith, length-answer (s .args .a) (long s))
 
 put-call-tab-requires : tie.Need-put-call-tab-requires
 put-call-tab-requires c κs =
-    let s = S1 (c .before .before .before) in
-    let a = s .args .a in
-    omega (arith, long s, on-room (hexOf (a .call)) 9 (left3 a) (written1 (c .before .before .before)) (s .pre))
+    let c1 = c .before .before .before in
+    let s = by1 c1 in
+    omega (arith, length-answer (s .args .a) (long s), c1 .put-number-and)
 
 cast-put-number-and-2 : tie.Need-cast-put-number-and-2
 cast-put-number-and-2 c = search needs
 
 put-number-and-requires-2 : tie.Need-put-number-and-requires-2
 put-number-and-requires-2 c κs =
-    let s = S2 (c .before .before .before .before) in
-    let a = s .args .a in
-    on-room (decimal (a .place .0)) 9 (left4 a) (written2 (c .before .before .before .before)) (s .pre)
+    let c2 = c .before .before .before .before in
+    let c1 = by2 c2 in
+    let s = by1 c1 in
+    omega (arith, length-answer (s .args .a) (long s), c1 .put-number-and, c2 .put-call-tab)
 
 cast-put-number-and-3 : tie.Need-cast-put-number-and-3
 cast-put-number-and-3 c = search needs
 
 put-number-and-requires-3 : tie.Need-put-number-and-requires-3
 put-number-and-requires-3 c κs =
-    let s = S3 (c .before .before .before .before) in
-    let a = s .args .a in
-    on-room (decimal (a .state)) 9 (left5 a) (written3 (c .before .before .before .before)) (s .pre)
+    let c3 = c .before .before .before .before in
+    let c2 = by3 c3 in
+    let c1 = by2 c2 in
+    let s = by1 c1 in
+    omega (arith, length-answer (s .args .a) (long s), c1 .put-number-and, c2 .put-call-tab, c3 .put-number-and2)
 
 put-sent-requires : tie.Need-put-sent-requires
 put-sent-requires c κs =
-    let s = S4 (c .before .before .before) in
-    let a = s .args .a in
-    on-room (sentLine (a .first)) 9 (left6 a) (written4 (c .before .before .before)) (s .pre)
+    let c4 = c .before .before .before in
+    let c3 = by4 c4 in
+    let c2 = by3 c3 in
+    let c1 = by2 c2 in
+    let s = by1 c1 in
+    omega (arith, length-answer (s .args .a) (long s), c1 .put-number-and, c2 .put-call-tab, c3 .put-number-and2, c4 .put-number-and3)
 
 cast-put-number-and-4 : tie.Need-cast-put-number-and-4
 cast-put-number-and-4 c = search needs
 
 put-number-and-requires-4 : tie.Need-put-number-and-requires-4
 put-number-and-requires-4 c κs =
-    let s = S5 (c .before .before .before .before) in
-    let a = s .args .a in
-    on-room (decimal (a .started)) 9 (left7 a) (written5 (c .before .before .before .before)) (s .pre)
+    let c5 = c .before .before .before .before in
+    let c4 = by5 c5 in
+    let c3 = by4 c4 in
+    let c2 = by3 c3 in
+    let c1 = by2 c2 in
+    let s = by1 c1 in
+    omega (arith, length-answer (s .args .a) (long s), c1 .put-number-and, c2 .put-call-tab, c3 .put-number-and2, c4 .put-number-and3, c5 .put-sent)
 
 cast-put-number-and-5 : tie.Need-cast-put-number-and-5
 cast-put-number-and-5 c = search needs
 
 put-number-and-requires-5 : tie.Need-put-number-and-requires-5
 put-number-and-requires-5 c κs =
-    let s = S6 (c .before .before .before .before) in
-    let a = s .args .a in
-    on-room (decimal (a .stopped)) 9 (left8 a) (written6 (c .before .before .before .before)) (s .pre)
+    let c6 = c .before .before .before .before in
+    let c5 = by6 c6 in
+    let c4 = by5 c5 in
+    let c3 = by4 c4 in
+    let c2 = by3 c3 in
+    let c1 = by2 c2 in
+    let s = by1 c1 in
+    omega (arith, length-answer (s .args .a) (long s), c1 .put-number-and, c2 .put-call-tab, c3 .put-number-and2, c4 .put-number-and3, c5 .put-sent, c6 .put-number-and4)
 
 put-sent-requires-2 : tie.Need-put-sent-requires-2
 put-sent-requires-2 c κs =
-    let s = S7 (c .before .before .before) in
-    let a = s .args .a in
-    on-room (sentLine (a .second)) 10 [] (written7 (c .before .before .before)) (s .pre)
+    let c7 = c .before .before .before in
+    let c6 = by7 c7 in
+    let c5 = by6 c6 in
+    let c4 = by5 c5 in
+    let c3 = by4 c4 in
+    let c2 = by3 c3 in
+    let c1 = by2 c2 in
+    let s = by1 c1 in
+    omega (arith, length-answer (s .args .a) (long s), c1 .put-number-and, c2 .put-call-tab, c3 .put-number-and2, c4 .put-number-and3, c5 .put-sent, c6 .put-number-and4, c7 .put-number-and5)
+
+-- what the eight calls have written
+text : (c : tie.After-put-sent2)
+    → Written (start c .args .out .now) 0 (answerLine (start c .args .a)) (c .put-sent2 .result) (c .put-sent2 .last .0)
+unfolding answerLine
+text c8 =
+    let c7 = by8 c8 in
+    let c6 = by7 c7 in
+    let c5 = by6 c6 in
+    let c4 = by5 c5 in
+    let c3 = by4 c4 in
+    let c2 = by3 c3 in
+    let c1 = by2 c2 in
+    let a = by1 c1 .args .a in
+    tab-then _ _ (decimal (a .number)) _ (c1 .put-number-and .ensures)
+    (tab-then _ _ (hexOf (a .call)) _ (omega (arith, c2 .put-call-tab .ensures .0, length-call (a .call) (long (by1 c1))), c2 .put-call-tab .ensures .1)
+    (tab-then _ _ (decimal (a .place .0)) _ (c3 .put-number-and2 .ensures)
+    (tab-then _ _ (decimal (a .state)) _ (c4 .put-number-and3 .ensures)
+    (tab-then _ _ (sentLine (a .first)) _ (c5 .put-sent .ensures)
+    (tab-then _ _ (decimal (a .started)) _ (c6 .put-number-and4 .ensures)
+    (tab-then _ _ (decimal (a .stopped)) _ (c7 .put-number-and5 .ensures) (with-end _ _ (sentLine (a .second)) 10 (c8 .put-sent2 .ensures))))))))
 
 same-length : tie.Need-same-length
-same-length c = written8 (c .before .before) .room
+same-length c =
+    let d = c .before .before in
+    let s = start d .args in
+    sets-length (s .out .now) (d .put-sent2 .last .0) (answerLine (s .a)) 0 (text d .1)
 
 returns : tie.Need-returns
-returns c = writing-all (written8 (c .before .before))
+returns c = let w = text (c .before .before) in (omega (arith, w .0), w .1)
 
 pub put-answer-spec : {M : Type 1} → statement M
 put-answer-spec =
