@@ -27,10 +27,19 @@ extern "C" {
 #endif
 
 #define PARK_IMAGE_OCTETS 2016
+
+/*
+ * What to set aside for an answer line, its line feed included. It is proved that no answer is longer, whatever the image and the line hold:
+ * the call takes 32 octets, the number and the place two each, the two connections and the two invokes five each, the seven other fields
+ * one each, thirteen tabs and the feed. No answer needs all of that. A refusal names no place, a message has a connection or an invoke and
+ * not both, and of two messages one has neither: the longest line that is given has 64 octets, which is proved too. A buffer is refused
+ * below PARK_ANSWER_OCTETS all the same, whatever the answer would have been.
+ */
 #define PARK_ANSWER_OCTETS 77
 
 /*
  * Takes one event. Gives the count of octets written to the answer, its line feed included, and leaves the octets beyond them as they were.
+ * The count is never above PARK_ANSWER_OCTETS.
  * Gives 0, and touches nothing, only where the answer buffer is shorter than PARK_ANSWER_OCTETS. Any other input has an answer: an image
  * of another length or of a table that is not sound is refused by 25, a line that does not read by 21 to 24, an event by 1 to 10.
  *

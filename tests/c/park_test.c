@@ -204,6 +204,34 @@ static void picker_told(void)
     }
 }
 
+/*
+ * Q-2: "no line of an answer the table gives is longer than 77 octets, line feed included". Fourteen fields take thirteen tabs and a feed. The
+ * call has 32 digits; the place has two, and the number of an event that is done has one; a connection has five, and of the two messages
+ * one has it, and no invoke; the ten others have a digit each. That is 64, and these events reach it, once by the first message and once
+ * by the second.
+ */
+static void longest_answers(void)
+{
+    static const char *const lines[] = {
+        PARK_17, "4\t" ONE "\t0\t0\t65535\t0\t0", "6\t" ONE "\t0\t0\t0\t1\t0", "4\t" ONE "\t0\t0\t65535\t0\t0", T3_EXPIRY,
+    };
+    static const char *const says[] = {
+        PARKED_17,
+        "0\t" ONE "\t17\t4\t4\t0\t1\t0\t4\t0" NO_SECOND,
+        "0\t" ONE "\t17\t1\t6\t65535\t0\t1\t0\t4" NO_SECOND,
+        "0\t" ONE "\t17\t4\t4\t0\t2\t0\t4\t0" NO_SECOND,
+        "0\t" ONE "\t17\t0\t7\t0\t0\t0\t0\t5\t6\t65535\t0\t1\n",
+    };
+    static const size_t octets[] = {60, 60, 64, 60, 64};
+    int i;
+    clear(&image, 0, PARK_IMAGE_OCTETS);
+    for (i = 0; i < 5; i++) {
+        expect(strlen(says[i]) == octets[i], "the expected line is as long as it is said to be");
+        text(lines[i]);
+        answers(says[i], 1);
+    }
+}
+
 static void bad_images(void)
 {
     size_t len;
@@ -320,6 +348,7 @@ int main(void)
     session();
     short_answers();
     picker_told();
+    longest_answers();
     bad_images();
     bad_lines();
     one_place();

@@ -36,7 +36,7 @@ use Rattle.step.proofs.Promises.{refused-not-0}
 use Rattle.lines.specs.declared.ReadEvent.{ReadEvent}
 use Rattle.lines.specs.EventLine.{readLine}
 use Rattle.lent.specs.LineStep.{stepRead}
-use Rattle.lines.proofs.ReadCalls.{read-long}
+use Rattle.lines.proofs.Ranged.{read-ranged}
 use Rattle.image.specs.Image.{octetsOf, imageOf, placeWritten, statesFit, tableFrom, isRead}
 use Rattle.image.proofs.Round.{fit-from, image-written-back, place-image}
 use Rattle.lent.specs.Lent.{stepOn, leftOn, leftFor, eventAnswer, eventImage, lineAnswer, lineImage}
@@ -93,7 +93,7 @@ module _ (image : List ℕ) (octets : (k : ℕ) → getD image k 0 < 256) (good 
 
   -- THE LINE AT THE IMAGE
   pub line-kept : (line : List ℕ) → (lineAnswer image line ≡ stepOn image line .answer) × (lineImage image line ≡ leftOn image line)
-  line-kept line = rw good (by (readLine line) (eqb (readLine line .number) 0) refl (read-long line))
+  line-kept line = rw good (by (readLine line) (eqb (readLine line .number) 0) refl (read-ranged line .call))
     where
       by : (r : ReadEvent) (b : Bool) → eqb (r .number) 0 ≡ b → length (r .event .call) ≡ 16
           → (cond b (eventAnswer image (r .event)) (saying (r .number) NoMessage) ≡ stepRead held r .answer)

@@ -1,4 +1,3 @@
-pub mod LineSteps
 pub mod Kept
 pub mod Short
 pub mod Tables

@@ -1,24 +1,56 @@
--- No answer at an image needs more room than `answerRoom`.
+-- No answer to a line is longer than the longest that a step gives: that of a line which reads is one of a step, and that of any other line, or of
+-- any line at a refused image, is a number and zeros.
 -- Assumes nothing.
 use mathlib.Core.Path.{_≡_, refl}
 use mathlib.Core.Bool.{Bool, true, false}
 use mathlib.Core.List.{List}
-use Prim.Native.Nat.{ℕ, _≤_}
-use lib.Dec.{eqb}
-use lib.ListN.{length}
+use Prim.Native.Nat.{ℕ, zero, suc, _+_, _≤_, _<_}
+use native.Mathlib.Nat.{not-suc-le-zero, le-of-suc-le-suc}
+use native.Mathlib.Omega.{arith}
+use lib.Dec.{eqb, lit≤}
+use lib.ListN.{length, getD}
 use borrow.Author.Tests.{eqb-true}
 use Rattle.laws.proofs.Bools.{and-left}
-use Rattle.lines.specs.AnswerLine.{answerLine, answerRoom}
-use Rattle.lent.proofs.LineSteps.{Typed, line-short, number-short}
-use Rattle.image.specs.Image.{tableFrom, isRead}
+use Rattle.table.specs.declared.Table.{Table}
+use Rattle.table.specs.Places.{blank}
+use Rattle.lines.specs.declared.ReadEvent.{ReadEvent}
+use Rattle.lines.specs.AnswerLine.{answerLine}
+use Rattle.lines.specs.EventLine.{readLine}
+use Rattle.lines.proofs.Ranged.{Ranged, read-ranged}
+use Rattle.room.specs.Room.{TypedTable, longest}
+use Rattle.room.proofs.Room.{none-longer, number-short}
+use Rattle.image.specs.Image.{recordFrom, recordsFrom, tableFrom, isRead}
 use Rattle.image.proofs.Round.{fit-from}
+use Rattle.lent.specs.LineStep.{stepRead, lineStep}
 use Rattle.lent.specs.Lent.{stepOn}
 
-pub on-short : (image line : List ℕ) → Typed (stepOn image line .answer) → length (answerLine (stepOn image line .answer)) ≤ answerRoom
-on-short image line = by (isRead image) refl
+-- A LINE AT A TABLE
+pub line-short : (t : Table) (line : List ℕ) → TypedTable t → length (answerLine (lineStep t line .answer)) ≤ longest
+line-short t line typed = by (readLine line) (read-ranged line)
   where
-    by : (b : Bool) → isRead image ≡ b → Typed (stepOn image line .answer) → length (answerLine (stepOn image line .answer)) ≤ answerRoom
-    by true q =
-        let long : length image ≡ 2016 = eqb-true (length image) 2016 (and-left (eqb (length image) 2016) _ q) in
-        rw q (line-short (tableFrom image) line (fit-from image long .size))
-    by false q = rw q (λ y. number-short 25 (y .number))
+    by : (r : ReadEvent) → Ranged r → length (answerLine (stepRead t r .answer)) ≤ longest
+    by r x = on (eqb (r .number) 0) refl
+      where
+        on : (b : Bool) → eqb (r .number) 0 ≡ b → length (answerLine (stepRead t r .answer)) ≤ longest
+        on true q = rw q (none-longer t (r .event) typed (record { call = x .call; connection = x .connection }))
+        on false q = rw q (number-short (r .number) (omega (arith, x .number)))
+
+-- two octets are a number of 16 bits
+connections-from : (n i : ℕ) (s : List ℕ) → ((k : ℕ) → getD s k 0 < 256) → (k : ℕ) → k < n → getD (recordsFrom s i n) k blank .connection .0 ≤ 65535
+unfolding recordsFrom recordFrom
+connections-from zero i s octets k h = absurd (not-suc-le-zero h)
+connections-from (suc n) i s octets zero h = omega (arith, octets (i + 17), octets (i + 17 + 1))
+connections-from (suc n) i s octets (suc k) h = connections-from n (i + 21) s octets k (le-of-suc-le-suc h)
+
+typed-from : (image : List ℕ) → ((k : ℕ) → getD image k 0 < 256) → length image ≡ 2016 → TypedTable (tableFrom image)
+typed-from image octets long =
+    let fit = fit-from image long in
+    record { size = fit .size; call = fit .calls; connection = connections-from 96 0 image octets }
+
+-- A LINE AT AN IMAGE
+pub on-short : (image line : List ℕ) → ((k : ℕ) → getD image k 0 < 256) → length (answerLine (stepOn image line .answer)) ≤ longest
+on-short image line octets = by (isRead image) refl
+  where
+    by : (b : Bool) → isRead image ≡ b → length (answerLine (stepOn image line .answer)) ≤ longest
+    by true q = rw q (line-short (tableFrom image) line (typed-from image octets (eqb-true (length image) 2016 (and-left (eqb (length image) 2016) _ q))))
+    by false q = rw q (number-short 25 (lit≤ tt))

@@ -19,7 +19,6 @@ use Rattle.events.specs.declared.message.Message.the-variants.{NoMessage}
 use Rattle.events.specs.Rule.{ruleOf}
 use Rattle.events.specs.Answers.{saying}
 use Rattle.events.specs.Act.{acted}
-use Rattle.step.specs.declared.Step.{Step}
 use Rattle.step.specs.declared.aim.Aim.{Aim}
 use Rattle.step.specs.declared.aim.Aim.the-variants.{To, Nowhere}
 use Rattle.step.specs.Aim.{aim, nextWaiting}
@@ -29,7 +28,7 @@ use Rattle.step.proofs.Promises.{keeps-sound, refusal-keeps}
 use Rattle.lines.specs.declared.ReadEvent.{ReadEvent}
 use Rattle.lines.specs.EventLine.{readLine}
 use Rattle.lent.specs.LineStep.{lineStep}
-use Rattle.lines.proofs.ReadCalls.{read-long}
+use Rattle.lines.proofs.Ranged.{read-ranged}
 use Rattle.image.specs.declared.ReadImage.{ReadImage}
 use Rattle.image.specs.Image.{octetsOf, octetsOfAll, imageOf, tableFrom, isRead}
 use Rattle.image.proofs.Round.{Fit, fit-from, image-reads-back, image-written-back}
@@ -61,7 +60,7 @@ module _ (t : Table) (g : Good t) (e : Event) (given : length (e .call) ≡ 16) 
 
 module _ (t : Table) (g : Good t) (line : List ℕ) where
   pub line-good : Good (lineStep t line .table)
-  line-good = by (readLine line) (eqb (readLine line .number) 0) (read-long line)
+  line-good = by (readLine line) (eqb (readLine line .number) 0) (read-ranged line .call)
     where
       by : (r : ReadEvent) (b : Bool) → length (r .event .call) ≡ 16
           → Good (cond b (stepOf t (r .event)) (record { table = t; answer = saying (r .number) NoMessage }) .table)

@@ -187,6 +187,34 @@ length-step n h k = ap length (decimal-step n h k) ∙ length-snoc (decimal (n /
 pub length-digit : (n : ℕ) → n < 10 → length (decimal n) ≡ 1
 length-digit n h = ap length (decimal-digit n h)
 
+some-power : (k : ℕ) → 1 ≤ 10 ^ k
+some-power zero = omega arith
+some-power (suc k) = omega (arith, pow-suc 10 k, some-power k)
+
+-- from one power of ten to the next
+pub length-exact : (k n : ℕ) → 10 ^ k ≤ n → n < 10 ^ suc k → n < 10 ^ 20 → length (decimal n) ≡ suc k
+length-exact zero n l h m = length-digit n (omega arith)
+length-exact (suc k) n l h m =
+    omega (
+      arith,
+      length-step n (omega (arith, pow-suc 10 k, some-power k)) m,
+      length-exact k (n / 10) (omega (arith, pow-suc 10 k)) (omega (arith, pow-suc 10 (suc k))) (omega arith),
+    )
+
+-- five digits at once
+pub length-five-more : (n : ℕ) → 100000 ≤ n → n < 10 ^ 20 → length (decimal n) ≡ length (decimal (n / 100000)) + 5
+length-five-more n l h =
+    let rest : n / 10 / 10 / 10 / 10 / 10 ≡ n / 100000 = omega arith in
+    omega (
+      arith,
+      length-step n (omega arith) h,
+      length-step (n / 10) (omega arith) (omega arith),
+      length-step (n / 10 / 10) (omega arith) (omega arith),
+      length-step (n / 10 / 10 / 10) (omega arith) (omega arith),
+      length-step (n / 10 / 10 / 10 / 10) (omega arith) (omega arith),
+      ap (λ (m : ℕ). length (decimal m)) rest,
+    )
+
 -- no number has more than twenty digits
 digits-twenty : (k v : ℕ) → length (digitsOf k v) ≤ suc k
 digits-twenty zero v = omega arith

@@ -12,8 +12,8 @@ use Rattle.events.specs.declared.message.Sent.{Sent}
 use Rattle.lines.specs.Numbers.{decimal}
 use Rattle.lines.specs.Calls.{hexOf}
 use Rattle.lines.specs.EventLine.{eventLine}
-use Rattle.lines.specs.AnswerLine.{sentLine, answerLine, answerRoom}
-use Rattle.lines.proofs.Decimal.{decimal-twenty, length-digit, length-two, length-three, length-five}
+use Rattle.lines.specs.AnswerLine.{sentLine, answerLine}
+use Rattle.lines.proofs.Decimal.{decimal-twenty, length-three, length-five}
 use Rattle.lines.proofs.Hexadecimal.{length-hex}
 
 pub length-call : (s : List ℕ) → length s ≡ 16 → length (hexOf s) ≡ 32
@@ -74,47 +74,4 @@ event-line-short e h =
       length-five (e .connection .0) (h .connection),
       length-five (e .invoke .0) (h .invoke),
       length-three (e .timer) (h .timer),
-    )
-
--- what the paper's numbers say of a message
-pub record ShortSent (x : Sent) : Type 0 where
-  pub message : x .message < 10
-  pub connection : x .connection .0 ≤ 65535
-  pub invoke : x .invoke .0 ≤ 65535
-  pub error : x .error < 10
-
-pub sent-short : (x : Sent) → ShortSent x → length (sentLine x) ≤ 15
-sent-short x h =
-    omega (
-      arith,
-      length-sent x,
-      length-digit (x .message) (h .message),
-      length-five (x .connection .0) (h .connection),
-      length-five (x .invoke .0) (h .invoke),
-      length-digit (x .error) (h .error),
-    )
-
--- and of an answer
-pub record Short (a : Answer) : Type 0 where
-  pub number : a .number < 100
-  pub long : length (a .call) ≡ 16
-  pub place : a .place .0 < 100
-  pub state : a .state < 10
-  pub first : ShortSent (a .first)
-  pub started : a .started < 10
-  pub stopped : a .stopped < 10
-  pub second : ShortSent (a .second)
-
-pub answer-line-short : (a : Answer) → Short a → length (answerLine a) ≤ answerRoom
-answer-line-short a h =
-    omega (
-      arith,
-      length-answer a (h .long),
-      length-two (a .number) (h .number),
-      length-two (a .place .0) (h .place),
-      length-digit (a .state) (h .state),
-      sent-short (a .first) (h .first),
-      length-digit (a .started) (h .started),
-      length-digit (a .stopped) (h .stopped),
-      sent-short (a .second) (h .second),
     )

@@ -9,5 +9,6 @@ pub mod Lengths
 pub mod Written
 pub mod Rests
 pub mod Round
-pub mod ReadCalls
+pub mod Ranged
+pub mod Offered
 pub mod Unique

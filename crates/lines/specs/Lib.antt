@@ -3,3 +3,4 @@ pub mod Numbers
 pub mod Calls
 pub mod EventLine
 pub mod AnswerLine
+pub mod Offered

@@ -54,11 +54,23 @@ pub fn read_number(part: &[u8], most: u64) -> Number
     Number::Is(v)
 }
 
-// How many digits a number has.
+// How many digits a number has. A number of a line has five at most, and these are told by comparing alone.
 pub fn digits(n: u64) -> usize
     ensures { λ r. ⌜ r ≡ length (decimal n) ⌝ }
 {
-    if n < 10 { 1 } else { digits(n / 10) + 1 }
+    if n < 10 {
+        1
+    } else if n < 100 {
+        2
+    } else if n < 1000 {
+        3
+    } else if n < 10000 {
+        4
+    } else if n < 100000 {
+        5
+    } else {
+        digits(n / 100000) + 5
+    }
 }
 
 // Writes a number from an index of the buffer on, and gives the index after it.

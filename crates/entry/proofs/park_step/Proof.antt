@@ -4,10 +4,10 @@ use mathlib.Core.Path.{_≡_, ap, _∙_}
 use mathlib.Core.List.{List}
 use Prim.Native.Nat.{ℕ, _≤_}
 use native.Mathlib.Omega.{arith}
+use lib.Dec.{lit≤}
 use lib.ListN.{length}
 use borrow.Author.Tests.{lt-ltb, le-ltb}
 use Rattle.lines.specs.AnswerLine.{answerLine, answerRoom}
-use Rattle.lent.proofs.LineSteps.{Typed}
 use Rattle.lent.specs.Lent.{stepOn}
 use Rattle.lent.proofs.Short.{on-short}
 use borrow.Author.Needs.{needs}
@@ -15,7 +15,7 @@ use Rattle.entry.proofs.park_step.Statement.{statement}
 use Rattle.entry.proofs.park_step.Tie as tie
 
 returns : tie.Need-returns
-returns c = let short = lt-ltb _ _ (c .if1 .taken) in (rw short, rw short, rw short)
+returns c = let short = lt-ltb _ _ (c .if1 .taken) in (rw short, rw short, rw short, lit≤ tt)
 
 answer-line-requires : tie.Need-answer-line-requires
 answer-line-requires c κs = search needs
@@ -29,30 +29,24 @@ same-length c = search needs
 same-length-2 : tie.Need-same-length-2
 same-length-2 c = search needs
 
--- what the types say of the answer
-typed : (c : tie.After-answer-line) → Typed (c .answer-line .result)
-typed c = record {
-  number = search needs;
-  long = search needs;
-  first = record { connection = search needs; invoke = search needs };
-  second = record { connection = search needs; invoke = search needs };
-}
-
 returns-2 : tie.Need-returns-2
 returns-2 c =
     let w = c .before .before in
     let k = w .before .before .before .before in
     let i = k .before .before in
-    let s = i .before .before .before .before .args in
+    let known = i .before .before .before in
+    let s = known .before .args in
     let same = k .answer-line .ensures .0 in
     let text : List ℕ = answerLine (stepOn (s .image .now) (s .line .now) .answer) in
-    let short : length text ≤ answerRoom = on-short (s .image .now) (s .line .now) (rw same at (typed k)) in
+    let short : length text ≤ answerRoom = omega (arith, on-short (s .image .now) (s .line .now) (λ j. omega (arith, known .slice-known .given j))) in
     let long = le-ltb (length (s .answer .now)) answerRoom (i .if1 .left) in
     let given : answerLine (k .answer-line .result) ≡ text = ap answerLine same in
-    let fits = le-ltb (length (s .answer .now)) (length text) (omega (arith, short, i .if1 .left)) in (
-      rw long (w .write-answer .ensures .0 ∙ rw (given, fits)),
+    let fits = le-ltb (length (s .answer .now)) (length text) (omega (arith, short, i .if1 .left)) in
+    let count : w .write-answer .result ≡ length text = w .write-answer .ensures .0 ∙ rw (given, fits) in (
+      rw long count,
       rw long (k .answer-line .ensures .1),
       rw long (w .write-answer .ensures .1 ∙ rw (given, fits)),
+      omega (arith, short, count),
     )
 
 pub park-step-spec : {M : Type 1} → statement M

@@ -10,7 +10,6 @@ use lib.Seq.{sets}
 use borrow.Author.Tests.{le-ltb}
 use Rattle.laws.proofs.Runs.{part-rest}
 use Rattle.lines.specs.AnswerLine.{answerLine, answerRoom}
-use Rattle.lent.proofs.LineSteps.{Typed}
 use Rattle.lent.specs.Lent.{stepOn}
 use Rattle.lent.proofs.Short.{on-short}
 use Rattle.session.proofs.Ends.{part-sets}
@@ -39,24 +38,16 @@ same-length c = search needs
 same-length-2 : tie.Need-same-length-2
 same-length-2 c = search needs
 
--- what the types say of the answer
-typed : (c : tie.After-answer-at) → Typed (c .answer-at .result)
-typed c = record {
-  number = search needs;
-  long = search needs;
-  first = record { connection = search needs; invoke = search needs };
-  second = record { connection = search needs; invoke = search needs };
-}
-
 returns : tie.Need-returns
 returns c =
     let w = c .before .before in
     let k = w .before .before .before .before in
-    let s = k .before .before .before .before .before .args in
+    let known = k .before .before .before .before in
+    let s = known .before .args in
     let out : List ℕ = s .out .now in
     let same = k .answer-at .ensures .0 in
     let text : List ℕ = answerLine (stepOn (s .image .now) (s .line .now) .answer) in
-    let short : length text ≤ answerRoom = on-short (s .image .now) (s .line .now) (rw same at (typed k)) in
+    let short : length text ≤ answerRoom = omega (arith, on-short (s .image .now) (s .line .now) (λ j. omega (arith, known .slice-known .given j))) in
     let part : List ℕ = take (length out - s .at) (drop (s .at) out) in
     let long : length part ≡ length out - s .at = ap length (part-rest out (s .at)) ∙ length-drop (s .at) out in
     let given : answerLine (k .answer-at .result) ≡ text = ap answerLine same in

@@ -15,10 +15,16 @@ pub struct Tally {
     /// Accepted events by side (position or line), state before, kind.
     accepted: BTreeMap<(bool, u8, u8), u64>,
     cases: BTreeMap<&'static str, u64>,
+    /// Answers by their length.
+    lengths: BTreeMap<usize, u64>,
 }
 
 /// How many names `Tally::case` is called with.
 const CASES: usize = 34;
+
+/// The longest line that comes, of the 77 octets that are set aside: the call's 32 digits, two of a place or of a
+/// number, five of one connection or one invoke, a digit of each of the eleven other fields, thirteen tabs and the feed.
+const LONGEST: usize = 64;
 
 /// By side, state before and kinds: all that "Events" accepts.
 const ACCEPTED: [(bool, u8, &[u8]); 10] = [
@@ -46,6 +52,7 @@ impl Tally {
     /// `image` is the one before the step.
     pub fn note(&mut self, image: &[u8], line: &[u8], answer: &[u8]) {
         self.steps += 1;
+        *self.lengths.entry(answer.len()).or_default() += 1;
         let text = std::str::from_utf8(answer).unwrap_or_default();
         let field = |index| text.trim_end().split('\t').nth(index).and_then(|field| field.parse::<usize>().ok());
         let number = field(0).unwrap_or(26);
@@ -141,6 +148,11 @@ impl Tally {
         }
         for (name, count) in &self.cases {
             println!("  {count:>8} {name}");
+        }
+        let (longest, times) = self.lengths.last_key_value().expect("an answer");
+        println!("  longest answer {longest} octets, {times} times");
+        if *longest != LONGEST {
+            fail(&format!("the longest answer should have {LONGEST} octets"));
         }
         let expected: BTreeSet<_> = ACCEPTED
             .iter()

@@ -1,11 +1,11 @@
--- One digit more than the number without its last digit has, by the value of the number.
+-- Up to five digits are told by the powers of ten; any five more by the number without its last five, by its value.
 -- Assumes nothing.
 use mathlib.Core.Path.{sym}
 use Prim.Native.Nat.{ℕ, _<_, _/_}
 use native.Mathlib.Omega.{arith}
 use borrow.Fn.Kinds.{In}
 use borrow.Fn.PlainCycle.{Measures, is, falls, and}
-use Rattle.lines.proofs.Decimal.{length-step, length-digit, decimal-twenty}
+use Rattle.lines.proofs.Decimal.{length-digit, length-exact, length-five-more, decimal-twenty}
 use Rattle.lines.proofs.numbers.digits.Reads as digits
 use Rattle.lines.proofs.numbers.digits.Kinds as digits-kinds
 use Rattle.lines.proofs.numbers.+digits.Lts-digits as digits-lts
@@ -28,15 +28,31 @@ digits-digits-requires t c κs = (omega arith, tt)
 
 digits-add-result :
     (t : ℕ) → digits-lts.Need-add-result (digits-below t, digits.Post) (digits-at t) digits.Post
-digits-add-result t c = omega (arith, decimal-twenty (c .before .before .args .n / 10))
+digits-add-result t c = omega (arith, decimal-twenty (c .before .before .before .before .before .before .args .n / 100000))
 
 digits-returns :
     (t : ℕ) → digits-lts.Need-returns (digits-below t, digits.Post) (digits-at t) digits.Post
-digits-returns t c = sym (length-digit (c .before .args .n) (c .if1 .taken))
+digits-returns t c = sym (length-digit (c .before .args .n) (omega arith))
 
 digits-returns-2 :
     (t : ℕ) → digits-lts.Need-returns-2 (digits-below t, digits.Post) (digits-at t) digits.Post
-digits-returns-2 t c = omega (arith, length-step (c .before .before .args .n) (c .before .if1 .left) (omega arith))
+digits-returns-2 t c = sym (length-exact 1 (c .before .before .args .n) (omega arith) (omega arith) (omega arith))
+
+digits-returns-3 :
+    (t : ℕ) → digits-lts.Need-returns-3 (digits-below t, digits.Post) (digits-at t) digits.Post
+digits-returns-3 t c = sym (length-exact 2 (c .before .before .before .args .n) (omega arith) (omega arith) (omega arith))
+
+digits-returns-4 :
+    (t : ℕ) → digits-lts.Need-returns-4 (digits-below t, digits.Post) (digits-at t) digits.Post
+digits-returns-4 t c = sym (length-exact 3 (c .before .before .before .before .args .n) (omega arith) (omega arith) (omega arith))
+
+digits-returns-5 :
+    (t : ℕ) → digits-lts.Need-returns-5 (digits-below t, digits.Post) (digits-at t) digits.Post
+digits-returns-5 t c = sym (length-exact 4 (c .before .before .before .before .before .args .n) (omega arith) (omega arith) (omega arith))
+
+digits-returns-6 :
+    (t : ℕ) → digits-lts.Need-returns-6 (digits-below t, digits.Post) (digits-at t) digits.Post
+digits-returns-6 t c = omega (arith, length-five-more (c .before .before .before .before .before .before .args .n) (omega arith) (omega arith))
 
 pub +digits-spec : {M : Type 1} → statement M
 +digits-spec =
@@ -50,3 +66,7 @@ pub +digits-spec : {M : Type 1} → statement M
     (digits-add-result t)
     (digits-returns t)
     (digits-returns-2 t)
+    (digits-returns-3 t)
+    (digits-returns-4 t)
+    (digits-returns-5 t)
+    (digits-returns-6 t)

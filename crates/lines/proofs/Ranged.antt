@@ -1,11 +1,11 @@
--- An event that is read has a call of 16 octets, also where the line is refused.
+-- What comes of reading any line, refused ones too: its number is at most 24, and its event has a call of 16 octets and a connection of 16 bits.
 -- Assumes nothing.
 use mathlib.Core.Path.{_≡_, refl}
 use mathlib.Core.Bool.{Bool, true, false, cond}
 use mathlib.Core.List.{List, [], _∷_, _++_}
-use Prim.Native.Nat.{ℕ, zero, suc, _+_, _*_}
+use Prim.Native.Nat.{ℕ, zero, suc, _+_, _*_, _≤_}
 use native.Mathlib.Omega.{arith}
-use lib.Dec.{eqb, ltb}
+use lib.Dec.{eqb, ltb, lit≤}
 use lib.ListN.{length, length-append}
 use borrow.Author.Tests.{eqb-true}
 use Rattle.lines.specs.declared.numbers.Number.{Number}
@@ -16,6 +16,7 @@ use Rattle.lines.specs.Fields.{before, tabs}
 use Rattle.lines.specs.Numbers.{numberOf}
 use Rattle.lines.specs.Calls.{nibbleOf, badCall, callFrom, callOf}
 use Rattle.lines.specs.EventLine.{unread, withNumber, withCall, from2, from3, from4, from5, from6, from7, fieldsOf, readLine}
+use Rattle.lines.proofs.NumberLaws.{number-most}
 
 -- two digits for each octet that is missing
 from-long : (acc s : List ℕ) (n : ℕ) → length s ≡ n * 2 → length acc + n ≡ 16 → length (callFrom acc s .call) ≡ 16
@@ -38,39 +39,47 @@ call-long s = by (eqb (length s) 32) refl
     by true q = from-long [] s 16 (eqb-true (length s) 32 q) refl
     by false q = refl
 
-abbrev Long : ReadEvent → Type 0
-Long r = length (r .event .call) ≡ 16
+pub record Ranged (r : ReadEvent) : Type 0 where
+  pub number : r .number ≤ 24
+  pub call : length (r .event .call) ≡ 16
+  pub connection : r .event .connection .0 ≤ 65535
 
-number-on : (n : Number) (k : ℕ → ReadEvent) → ((v : ℕ) → Long (k v)) → Long (withNumber n k)
+refused : (n : ℕ) → n ≤ 24 → Ranged (unread n)
+refused n h = record { number = h; call = refl; connection = lit≤ tt }
+
+number-on : (s : List ℕ) (most : ℕ) (k : ℕ → ReadEvent) → ((v : ℕ) → v ≤ most → Ranged (k v)) → Ranged (withNumber (numberOf s most) k)
 unfolding withNumber
-number-on (Is v) k h = h v
-number-on Bad k h = refl
+number-on s most k h = by (numberOf s most) refl
+  where
+    by : (n : Number) → numberOf s most ≡ n → Ranged (withNumber n k)
+    by (Is v) q = h v (number-most s most v q)
+    by Bad q = refused 23 (lit≤ tt)
 
-call-on : (c : ReadCall) (k : List ℕ → ReadEvent) → Long (k (c .call)) → Long (withCall c k)
+call-on : (c : ReadCall) (k : List ℕ → ReadEvent) → Ranged (k (c .call)) → Ranged (withCall c k)
 unfolding withCall
 call-on c k h = by (c .good)
   where
-    by : (b : Bool) → Long (cond b (k (c .call)) (unread 24))
+    by : (b : Bool) → Ranged (cond b (k (c .call)) (unread 24))
     by true = h
-    by false = refl
+    by false = refused 24 (lit≤ tt)
 
-fields-long : (s : List ℕ) → Long (fieldsOf s)
+fields-ranged : (s : List ℕ) → Ranged (fieldsOf s)
 unfolding fieldsOf
-fields-long s =
-    number-on (numberOf (before s) 255) _ λ kind.
+fields-ranged s =
+    number-on (before s) 255 _ λ kind _.
     call-on (callOf (before (from2 s))) _
-    (number-on (numberOf (before (from3 s)) 65535) _ λ place.
-    number-on (numberOf (before (from4 s)) 255) _ λ choice.
-    number-on (numberOf (before (from5 s)) 65535) _ λ connection.
-    number-on (numberOf (before (from6 s)) 65535) _ λ invoke.
-    number-on (numberOf (before (from7 s)) 255) _ λ timer.
-    call-long (before (from2 s)))
+    (number-on (before (from3 s)) 65535 _ λ place _.
+    number-on (before (from4 s)) 255 _ λ choice _.
+    number-on (before (from5 s)) 65535 _ λ connection within.
+    number-on (before (from6 s)) 65535 _ λ invoke _.
+    number-on (before (from7 s)) 255 _ λ timer _.
+    record { number = lit≤ tt; call = call-long (before (from2 s)); connection = within })
 
-pub read-long : (line : List ℕ) → length (readLine line .event .call) ≡ 16
+pub read-ranged : (line : List ℕ) → Ranged (readLine line)
 unfolding readLine
-read-long line = by (ltb 62 (length line)) (eqb (tabs line) 6)
+read-ranged line = by (ltb 62 (length line)) (eqb (tabs line) 6)
   where
-    by : (a b : Bool) → Long (cond a (unread 21) (cond b (fieldsOf line) (unread 22)))
-    by true b = refl
-    by false true = fields-long line
-    by false false = refl
+    by : (a b : Bool) → Ranged (cond a (unread 21) (cond b (fieldsOf line) (unread 22)))
+    by true b = refused 21 (lit≤ tt)
+    by false true = fields-ranged line
+    by false false = refused 22 (lit≤ tt)
