@@ -1,6 +1,6 @@
 -- The entry is decided: two runs that meet its contract give the same count and leave the same image and the same answer buffer.
 -- Assumes nothing.
-use mathlib.Core.Path.{_≡_, sym, ap₂, _∙_}
+use mathlib.Core.Path.{sym, _∙_}
 use mathlib.Core.List.{List}
 use Prim.Native.Nat.{ℕ}
 use denote.Ref.{now}

@@ -1,3 +1,4 @@
 pub mod Released
+pub mod Outcomes
 pub mod Replies
 pub mod Unique

@@ -1,38 +1,27 @@
 -- A call in state 4 has a picker who waits for a reply: a signal that is accepted there sends just one, to that picker, and takes the call out
 -- of that state. At a call in another state no signal sends a reply.
 -- Assumes nothing.
-use mathlib.Core.Path.{_≡_, refl}
-use mathlib.Core.Bool.{Bool, true, false, cond, true≢false, false≢true}
-use lib.Dec.{eqb}
+use mathlib.Core.Path.{_≡_, refl, sym, ap, _∙_}
+use mathlib.Core.Bool.{true, false, true≢false, false≢true}
 use Rattle.table.specs.declared.Connection.{Connection}
 use Rattle.table.specs.declared.Invoke.{Invoke}
 use Rattle.table.specs.declared.State.{State}
 use Rattle.table.specs.declared.State.the-variants.{Free, ParkWaiting, LineWaiting, Requested, RemoteRequested, HandedOver}
 use Rattle.table.specs.declared.Side.{Side}
 use Rattle.table.specs.declared.Record.{Record}
-use Rattle.table.specs.Timers.{timerSet}
 use Rattle.events.specs.declared.Event.{Event}
 use Rattle.events.specs.declared.rule.Signal.{Signal}
-use Rattle.events.specs.declared.rule.Signal.the-variants.{LocalPickup, PickRequest, PickupResult, PickupError, ErrorInRelease, Release, Answered, Expiry}
 use Rattle.events.specs.declared.message.Message.{Message}
-use Rattle.events.specs.declared.message.Message.the-variants.{NoMessage, Connect, Facility, PickResult, PickError, ReleaseComplete}
+use Rattle.events.specs.declared.message.Message.the-variants.{NoMessage, PickResult, PickError, ReleaseComplete}
 use Rattle.events.specs.declared.message.ErrorValue.the-variants.{Undefined}
-use Rattle.events.specs.declared.refusal.Refusal.the-variants.{TimerNotRunning}
 use Rattle.events.specs.declared.turn.Stage.{Stage}
-use Rattle.events.specs.declared.turn.Stage.the-variants.{Waits, AskedHere, AskedFrom, Taken}
+use Rattle.events.specs.declared.turn.Stage.the-variants.{AskedFrom}
 use Rattle.events.specs.declared.turn.Outcome.{Outcome}
 use Rattle.events.specs.declared.turn.Outcome.the-variants.{Refused, Freed, Becomes}
 use Rattle.events.specs.Message.{sent}
-use Rattle.events.specs.Turn.{stageBy, stageOf, up, pickedUp, isOutstanding, ifOutstanding, resulted, failed, toPicker, answered, runs, timedOut, turnOn}
+use Rattle.events.specs.Turn.{stageBy, stageOf, turnOn}
 use Rattle.events.specs.Reply.{replies, RepliesOnce}
-use Rattle.events.proofs.Released.{error-in-release}
-
--- the pickup that the call waits for is asked for over a connection
-abbrev pub isOut : Stage → Bool
-isOut Waits = false
-isOut AskedHere = false
-isOut (AskedFrom c) = true
-isOut Taken = false
+use Rattle.events.proofs.Outcomes.{isOut, GoesOn, asked-here, asked-from, handed-over, turned-down, Ends, freed, cut-off, freed-and-told, cut-off-and-told, Does, does}
 
 -- what an outcome at a call in state 4 does: it is a refusal, or sends one reply, and the picker waits no longer
 abbrev pub Told : Connection → Outcome → Type 0
@@ -56,28 +45,36 @@ module _ (c : Connection) where
   error-second : RepliesOnce c (sent ReleaseComplete) (sent (PickError c Undefined))
   error-second = record { once = refl; first-there = λ h. absurd (false≢true h); second-there = λ h. refl }
 
-  if-told : (right : Bool) (u : Outcome) → Told c u → Told c (ifOutstanding right u)
-  if-told true u h = h
-  if-told false u h = tt
-
-  time-out-told : Told c (timedOut (AskedFrom c))
-  time-out-told = error-second
-
-  expiry-told : (running nine : Bool) (n : Invoke) → Told c (cond running (cond nine (failed (AskedFrom c) true n) (timedOut (AskedFrom c))) (Refused TimerNotRunning))
-  expiry-told true true n = (error-first, refl)
-  expiry-told true false n = time-out-told
-  expiry-told false nine n = tt
-
 -- IN STATE 4
 pub told : (k : Signal) (a : Side) (r : Record) (e : Event) → r .state ≡ RemoteRequested → Told (r .connection) (turnOn k a r e)
-told LocalPickup a r e q = rw q tt
-told PickRequest a r e q = rw q tt
-told PickupResult a r e q = rw q (if-told (r .connection) (isOutstanding r (e .invoke)) (Becomes Taken (r .count) (PickResult (r .connection))) (result-first (r .connection), refl))
-told PickupError a r e q = rw q (if-told (r .connection) (isOutstanding r (e .invoke)) (Becomes Waits (r .count) (PickError (r .connection) Undefined)) (error-first (r .connection), refl))
-told ErrorInRelease a r e q = rw (error-in-release, q) (error-first (r .connection))
-told Release a r e q = rw q (error-first (r .connection))
-told Answered a r e q = rw q tt
-told Expiry a r e q = rw q (expiry-told (r .connection) (runs (timerSet a RemoteRequested) (e .timer)) (eqb (e .timer) 9) (r .count))
+told k a r e q = by (turnOn k a r e) (does k a r e)
+  where
+    out : stageOf r ≡ AskedFrom (r .connection)
+    out = ap (λ s. stageBy s (r .connection)) q
+
+    -- the picker of the stage is that of the record
+    same : (c : Connection) → stageOf r ≡ AskedFrom c → c ≡ r .connection
+    same c w = cc (sym w ∙ out)
+
+    never : isOut (stageOf r) ≡ false → ⊥
+    never w = true≢false (sym (ap isOut out) ∙ w)
+
+    on : (g : Stage) (n : Invoke) (m : Message) → GoesOn k r e g n m → RepliesOnce (r .connection) (sent m) (sent NoMessage) × (isOut g ≡ false)
+    on g n m (asked-here x w) = absurd (never (ap isOut w))
+    on g n m (asked-from x w) = absurd (never (ap isOut w))
+    on g n m (handed-over c w) = rw (same c w) (result-first (r .connection), refl)
+    on g n m (turned-down x c w) = rw (same c w) (error-first (r .connection), refl)
+
+    end : (first second : Message) → Ends r first second → RepliesOnce (r .connection) (sent first) (sent second)
+    end first second (freed w) = absurd (never w)
+    end first second (cut-off w) = absurd (never w)
+    end first second (freed-and-told c w) = rw (same c w) (error-first (r .connection))
+    end first second (cut-off-and-told c w) = rw (same c w) (error-second (r .connection))
+
+    by : (u : Outcome) → Does k r e u → Told (r .connection) u
+    by (Refused w) x = tt
+    by (Becomes g n m) x = on g n m x
+    by (Freed first second) x = end first second x
 
 out-in-4 : (s : State) (c : Connection) → (s ≡ RemoteRequested → ⊥) → isOut (stageBy s c) ≡ false
 out-in-4 Free c h = refl
@@ -87,55 +84,26 @@ out-in-4 Requested c h = refl
 out-in-4 RemoteRequested c h = absurd (h refl)
 out-in-4 HandedOver c h = refl
 
-pickup-silent : (g to : Stage) (n : Invoke) (m : Message) → replies (sent m) (sent NoMessage) ≡ 0 → Silent (pickedUp g to n m)
-pickup-silent Waits to n m h = h
-pickup-silent AskedHere to n m h = tt
-pickup-silent (AskedFrom c) to n m h = tt
-pickup-silent Taken to n m h = tt
-
-if-silent : (right : Bool) (u : Outcome) → Silent u → Silent (ifOutstanding right u)
-if-silent true u h = h
-if-silent false u h = tt
-
-result-silent : (g : Stage) (right : Bool) (n : Invoke) → isOut g ≡ false → Silent (resulted g right n)
-result-silent Waits right n h = tt
-result-silent AskedHere right n h = if-silent right (Freed NoMessage NoMessage) refl
-result-silent (AskedFrom c) right n h = absurd (true≢false h)
-result-silent Taken right n h = tt
-
-error-silent : (g : Stage) (right : Bool) (n : Invoke) → isOut g ≡ false → Silent (failed g right n)
-error-silent Waits right n h = tt
-error-silent AskedHere right n h = if-silent right (Freed ReleaseComplete NoMessage) refl
-error-silent (AskedFrom c) right n h = absurd (true≢false h)
-error-silent Taken right n h = tt
-
-no-picker : (g : Stage) → isOut g ≡ false → toPicker g ≡ NoMessage
-no-picker Waits h = refl
-no-picker AskedHere h = refl
-no-picker (AskedFrom c) h = absurd (true≢false h)
-no-picker Taken h = refl
-
-answer-silent : (s : State) → Silent (answered s)
-answer-silent Free = tt
-answer-silent ParkWaiting = tt
-answer-silent LineWaiting = refl
-answer-silent Requested = tt
-answer-silent RemoteRequested = tt
-answer-silent HandedOver = tt
-
-expiry-silent : (running nine : Bool) (g : Stage) (n : Invoke) → isOut g ≡ false
-    → Silent (cond running (cond nine (failed g true n) (timedOut g)) (Refused TimerNotRunning))
-expiry-silent true true g n h = error-silent g true n h
-expiry-silent true false g n h = rw (no-picker g h)
-expiry-silent false nine g n h = tt
-
 -- IN ANY OTHER STATE
 pub silent : (k : Signal) (a : Side) (r : Record) (e : Event) → (r .state ≡ RemoteRequested → ⊥) → Silent (turnOn k a r e)
-silent LocalPickup a r e h = pickup-silent (stageOf r) AskedHere (up (r .count)) (Connect (up (r .count))) refl
-silent PickRequest a r e h = pickup-silent (stageOf r) (AskedFrom (e .connection)) (up (r .count)) (Facility (up (r .count))) refl
-silent PickupResult a r e h = result-silent (stageOf r) (isOutstanding r (e .invoke)) (r .count) (out-in-4 (r .state) (r .connection) h)
-silent PickupError a r e h = error-silent (stageOf r) (isOutstanding r (e .invoke)) (r .count) (out-in-4 (r .state) (r .connection) h)
-silent ErrorInRelease a r e h = rw (error-in-release, no-picker (stageOf r) (out-in-4 (r .state) (r .connection) h))
-silent Release a r e h = rw (no-picker (stageOf r) (out-in-4 (r .state) (r .connection) h))
-silent Answered a r e h = answer-silent (r .state)
-silent Expiry a r e h = expiry-silent (runs (timerSet a (r .state)) (e .timer)) (eqb (e .timer) 9) (stageOf r) (r .count) (out-in-4 (r .state) (r .connection) h)
+silent k a r e h = by (turnOn k a r e) (does k a r e)
+  where
+    never : (c : Connection) → stageOf r ≡ AskedFrom c → ⊥
+    never c w = true≢false (sym (ap isOut w) ∙ out-in-4 (r .state) (r .connection) h)
+
+    on : (g : Stage) (n : Invoke) (m : Message) → GoesOn k r e g n m → replies (sent m) (sent NoMessage) ≡ 0
+    on g n m (asked-here x w) = refl
+    on g n m (asked-from x w) = refl
+    on g n m (handed-over c w) = absurd (never c w)
+    on g n m (turned-down x c w) = absurd (never c w)
+
+    end : (first second : Message) → Ends r first second → replies (sent first) (sent second) ≡ 0
+    end first second (freed w) = refl
+    end first second (cut-off w) = refl
+    end first second (freed-and-told c w) = absurd (never c w)
+    end first second (cut-off-and-told c w) = absurd (never c w)
+
+    by : (u : Outcome) → Does k r e u → Silent u
+    by (Refused w) x = tt
+    by (Becomes g n m) x = on g n m x
+    by (Freed first second) x = end first second x

@@ -5,7 +5,6 @@ use Rattle.table.specs.declared.Connection.{Connection}
 use Rattle.table.specs.declared.Side.the-variants.{Position, Line}
 use Rattle.events.specs.declared.rule.Rule.{Rule}
 use Rattle.events.specs.declared.rule.Rule.the-variants.{Start, On, Unknown}
-use Rattle.events.specs.declared.rule.Signal.{Signal}
 use Rattle.events.specs.declared.rule.Signal.the-variants.{LocalPickup, PickRequest, PickupResult, PickupError, ErrorInRelease, Release, Answered, Expiry}
 use Rattle.events.specs.declared.message.Message.{Message}
 use Rattle.events.specs.declared.message.Message.the-variants.{NoMessage, ParkError, PickError}

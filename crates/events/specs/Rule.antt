@@ -6,7 +6,6 @@ use lib.Dec.{eqb}
 use Rattle.table.specs.declared.Side.the-variants.{Position, Line}
 use Rattle.events.specs.declared.rule.Rule.{Rule}
 use Rattle.events.specs.declared.rule.Rule.the-variants.{Start, On, Unknown}
-use Rattle.events.specs.declared.rule.Signal.{Signal}
 use Rattle.events.specs.declared.rule.Signal.the-variants.{LocalPickup, PickRequest, PickupResult, PickupError, ErrorInRelease, Release, Answered, Expiry}
 
 -- kinds 1 to 10, in the paper's order

@@ -1,7 +1,7 @@
 -- The table image (document 01, "Image: per place 21 octets, place 1 first: state, call, connection, count, the last two high octet
 -- first."): reading and writing it, with refusal 25.
 -- Assumes nothing.
-use mathlib.Core.Bool.{Bool, true, cond, not, _&&_}
+use mathlib.Core.Bool.{Bool, true, cond, _&&_}
 use mathlib.Core.List.{List, [], _∷_, _++_}
 use Prim.Native.Nat.{ℕ, zero, suc, _+_, _*_, _/_, _%_}
 use lib.Dec.{eqb, ltb}

@@ -1,13 +1,12 @@
 -- What goes out with an event: connections that the place or the event had, invokes of 16 bits, and of two messages one that carries neither.
--- By the definition of each kind. What is shown of connections holds of any property that 0 has: with none for `answers-light`, with the
+-- By the cases of `Does`. What is shown of connections holds of any property that 0 has: with none for `answers-light`, with the
 -- bound of 16 bits for the lengths.
 -- Assumes nothing.
 use mathlib.Core.Path.{_≡_, refl}
-use mathlib.Core.Bool.{Bool, true, false, cond}
 use mathlib.Core.Logic.{_⊎_, inl, inr}
 use Prim.Native.Nat.{ℕ, _≤_}
 use native.Mathlib.Omega.{arith}
-use lib.Dec.{eqb, lit≤}
+use lib.Dec.{lit≤}
 use Rattle.table.specs.declared.Connection.{Connection}
 use Rattle.table.specs.declared.Invoke.{Invoke}
 use Rattle.table.specs.declared.State.{State}
@@ -16,7 +15,6 @@ use Rattle.table.specs.declared.Side.{Side}
 use Rattle.table.specs.declared.Side.the-variants.{Position, Line}
 use Rattle.table.specs.declared.Record.{Record}
 use Rattle.table.specs.Places.{noConnection, noInvoke}
-use Rattle.table.specs.Timers.{timerSet}
 use Rattle.events.specs.declared.Event.{Event}
 use Rattle.events.specs.declared.rule.Rule.{Rule}
 use Rattle.events.specs.declared.rule.Rule.the-variants.{Start, On, Unknown}
@@ -34,8 +32,8 @@ use Rattle.events.specs.declared.turn.Outcome.{Outcome}
 use Rattle.events.specs.declared.turn.Outcome.the-variants.{Refused, Freed, Becomes}
 use Rattle.events.specs.Message.{messageConnection, messageInvoke, sent}
 use Rattle.events.specs.Refusal.{parkRefused, pickRequestRefused, refusalMessage}
-use Rattle.events.specs.Turn.{stageBy, stageOf, greeting, up, pickedUp, isOutstanding, ifOutstanding, resulted, failed, toPicker, answered, runs, timedOut, turnOn}
-use Rattle.events.proofs.Released.{error-in-release}
+use Rattle.events.specs.Turn.{stageBy, stageOf, greeting, up, turnOn}
+use Rattle.events.proofs.Outcomes.{GoesOn, asked-here, asked-from, handed-over, turned-down, Ends, freed, cut-off, freed-and-told, cut-off-and-told, Does, does}
 use Rattle.room.specs.Room.{Bare}
 
 -- connection and invoke are never both set in one message
@@ -52,7 +50,7 @@ never-both ReleaseComplete = inl refl
 pub nothing-bare : Bare (sent NoMessage)
 nothing-bare = record { connection = refl; invoke = refl }
 
-pub release-bare : Bare (sent ReleaseComplete)
+release-bare : Bare (sent ReleaseComplete)
 release-bare = record { connection = refl; invoke = refl }
 
 -- a message whose connection has a property, whose invoke has 16 bits, and in which one of the two is not set
@@ -124,10 +122,6 @@ module _ (P : ℕ → Type 0) (at-0 : P 0) where
   Turns (Freed first second) = Sends first × Sends second × (Bare (sent first) ⊎ Bare (sent second))
   Turns (Becomes g n m) = Sends m
 
-  -- the end of a stay of which nobody, or the picker alone, is told
-  ends : (m : Message) → Sends m → Turns (Freed m NoMessage)
-  ends m h = (h, nothing-sent, inr nothing-bare)
-
   -- the connection that a stage has
   abbrev Asked : Stage → Type 0
   Asked Waits = Unit {0}
@@ -143,61 +137,27 @@ module _ (P : ℕ → Type 0) (at-0 : P 0) where
   asked-by RemoteRequested c h = h
   asked-by HandedOver c h = tt
 
-  pickup-turns : (g to : Stage) (n : Invoke) (m : Message) → Sends m → Turns (pickedUp g to n m)
-  pickup-turns Waits to n m h = h
-  pickup-turns AskedHere to n m h = tt
-  pickup-turns (AskedFrom c) to n m h = tt
-  pickup-turns Taken to n m h = tt
-
-  if-turns : (right : Bool) (u : Outcome) → Turns u → Turns (ifOutstanding right u)
-  if-turns true u h = h
-  if-turns false u h = tt
-
-  result-turns : (g : Stage) (right : Bool) (n : Invoke) → Asked g → Turns (resulted g right n)
-  result-turns Waits right n h = tt
-  result-turns AskedHere right n h = if-turns right (Freed NoMessage NoMessage) (ends NoMessage nothing-sent)
-  result-turns (AskedFrom c) right n h = if-turns right (Becomes Taken n (PickResult c)) (sends (PickResult c) h (lit≤ tt))
-  result-turns Taken right n h = tt
-
-  release-sent : Sends ReleaseComplete
-  release-sent = sends ReleaseComplete at-0 (lit≤ tt)
-
-  error-turns : (g : Stage) (right : Bool) (n : Invoke) → Asked g → Turns (failed g right n)
-  error-turns Waits right n h = tt
-  error-turns AskedHere right n h = if-turns right (Freed ReleaseComplete NoMessage) (ends ReleaseComplete release-sent)
-  error-turns (AskedFrom c) right n h = if-turns right (Becomes Waits n (PickError c Undefined)) (sends (PickError c Undefined) h (lit≤ tt))
-  error-turns Taken right n h = tt
-
-  picker-sent : (g : Stage) → Asked g → Sends (toPicker g)
-  picker-sent Waits h = nothing-sent
-  picker-sent AskedHere h = nothing-sent
-  picker-sent (AskedFrom c) h = sends (PickError c Undefined) h (lit≤ tt)
-  picker-sent Taken h = nothing-sent
-
-  answer-turns : (s : State) → Turns (answered s)
-  answer-turns Free = tt
-  answer-turns ParkWaiting = tt
-  answer-turns LineWaiting = ends NoMessage nothing-sent
-  answer-turns Requested = tt
-  answer-turns RemoteRequested = tt
-  answer-turns HandedOver = tt
-
-  expiry-turns : (running nine : Bool) (g : Stage) (n : Invoke) → Asked g
-      → Turns (cond running (cond nine (failed g true n) (timedOut g)) (Refused TimerNotRunning))
-  expiry-turns true true g n h = error-turns g true n h
-  expiry-turns true false g n h = (release-sent, picker-sent g h, inl release-bare)
-  expiry-turns false nine g n h = tt
-
   module _ (a : Side) (r : Record) (e : Event) (h : P (r .connection .0)) where
-    asked : Asked (stageOf r)
-    asked = asked-by (r .state) (r .connection) h
+    -- a connection that the stage has is the record's
+    asked : (c : Connection) → stageOf r ≡ AskedFrom c → P (c .0)
+    asked c w = rw w at (asked-by (r .state) (r .connection) h)
 
     pub turns : (k : Signal) → Turns (turnOn k a r e)
-    turns LocalPickup = pickup-turns (stageOf r) AskedHere (up (r .count)) (Connect (up (r .count))) (sends (Connect (up (r .count))) at-0 (omega arith))
-    turns PickRequest = pickup-turns (stageOf r) (AskedFrom (e .connection)) (up (r .count)) (Facility (up (r .count))) (sends (Facility (up (r .count))) at-0 (omega arith))
-    turns PickupResult = result-turns (stageOf r) (isOutstanding r (e .invoke)) (r .count) asked
-    turns PickupError = error-turns (stageOf r) (isOutstanding r (e .invoke)) (r .count) asked
-    turns ErrorInRelease = rw error-in-release (ends (toPicker (stageOf r)) (picker-sent (stageOf r) asked))
-    turns Release = ends (toPicker (stageOf r)) (picker-sent (stageOf r) asked)
-    turns Answered = answer-turns (r .state)
-    turns Expiry = expiry-turns (runs (timerSet a (r .state)) (e .timer)) (eqb (e .timer) 9) (stageOf r) (r .count) asked
+    turns k = by (turnOn k a r e) (does k a r e)
+      where
+        on : (g : Stage) (n : Invoke) (m : Message) → GoesOn k r e g n m → Sends m
+        on g n m (asked-here x w) = sends (Connect (up (r .count))) at-0 (omega arith)
+        on g n m (asked-from x w) = sends (Facility (up (r .count))) at-0 (omega arith)
+        on g n m (handed-over c w) = sends (PickResult c) (asked c w) (lit≤ tt)
+        on g n m (turned-down x c w) = sends (PickError c Undefined) (asked c w) (lit≤ tt)
+
+        end : (first second : Message) → Ends r first second → Turns (Freed first second)
+        end first second (freed w) = (nothing-sent, nothing-sent, inr nothing-bare)
+        end first second (cut-off w) = (sends ReleaseComplete at-0 (lit≤ tt), nothing-sent, inr nothing-bare)
+        end first second (freed-and-told c w) = (sends (PickError c Undefined) (asked c w) (lit≤ tt), nothing-sent, inr nothing-bare)
+        end first second (cut-off-and-told c w) = (sends ReleaseComplete at-0 (lit≤ tt), sends (PickError c Undefined) (asked c w) (lit≤ tt), inl release-bare)
+
+        by : (u : Outcome) → Does k r e u → Turns u
+        by (Refused w) x = tt
+        by (Becomes g n m) x = on g n m x
+        by (Freed first second) x = end first second x

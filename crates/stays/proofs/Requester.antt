@@ -3,12 +3,10 @@
 -- (`told-nothing`). Along a stay, built event by event, the record and the list of events so far agree (`Agrees`).
 -- Assumes nothing.
 use mathlib.Core.Path.{_≡_, refl, sym, ap, _∙_, subst}
-use mathlib.Core.Bool.{Bool, true, false, cond}
 use mathlib.Core.List.{List, [], _∷_, _++_, append-assoc, append-nil}
 use mathlib.Core.Logic.{⊎-elim}
 use Prim.Native.Nat.{ℕ}
 use native.Mathlib.Omega.{arith}
-use lib.Dec.{eqb}
 use Rattle.table.specs.declared.Invoke.{Invoke}
 use Rattle.table.specs.declared.State.{State}
 use Rattle.table.specs.declared.State.the-variants.{Free, ParkWaiting, LineWaiting, Requested, RemoteRequested, HandedOver}
@@ -16,22 +14,19 @@ use Rattle.table.specs.declared.Side.{Side}
 use Rattle.table.specs.declared.Side.the-variants.{Position, Line}
 use Rattle.table.specs.declared.Record.{Record}
 use Rattle.table.specs.Places.{stateNumber, waitingOn, sideAt}
-use Rattle.table.specs.Timers.{timerSet}
 use Rattle.events.specs.declared.Event.{Event}
 use Rattle.events.specs.declared.Answer.{Answer}
 use Rattle.events.specs.declared.rule.Rule.the-variants.{On}
 use Rattle.events.specs.declared.rule.Signal.{Signal}
-use Rattle.events.specs.declared.rule.Signal.the-variants.{LocalPickup, PickRequest, PickupResult, PickupError, ErrorInRelease, Release, Answered, Expiry}
+use Rattle.events.specs.declared.rule.Signal.the-variants.{PickRequest, PickupResult}
 use Rattle.events.specs.declared.message.Message.{Message}
-use Rattle.events.specs.declared.message.Message.the-variants.{Connect, Facility, PickResult}
-use Rattle.events.specs.declared.refusal.Refusal.the-variants.{TimerNotRunning}
+use Rattle.events.specs.declared.message.Message.the-variants.{PickResult}
 use Rattle.events.specs.declared.turn.Stage.{Stage}
-use Rattle.events.specs.declared.turn.Stage.the-variants.{Waits, AskedHere, AskedFrom, Taken}
-use Rattle.events.specs.declared.turn.Outcome.the-variants.{Refused, Freed, Becomes}
+use Rattle.events.specs.declared.turn.Outcome.the-variants.{Freed, Becomes}
 use Rattle.events.specs.Rule.{ruleOf}
-use Rattle.events.specs.Turn.{stageOf, stateAt, connectionAt, up, pickedUp, isOutstanding, failed, answered, runs, timedOut, turnOn}
+use Rattle.events.specs.Turn.{stateAt, connectionAt, turnOn}
 use Rattle.events.specs.Reply.{replies, RepliesOnce}
-use Rattle.events.proofs.Released.{error-in-release}
+use Rattle.events.proofs.Outcomes.{GoesOn, asked-here, asked-from, handed-over, turned-down, does}
 use Rattle.events.proofs.Replies.{told, silent}
 use Rattle.step.proofs.Turns.{result-in-4}
 use Rattle.step.proofs.Pickers.{greeting-silent}
@@ -39,7 +34,7 @@ use Rattle.stays.specs.ParkTable.{machine}
 use Rattle.stays.specs.Demand.{Act, LastRequest, asks, stateAfter, TellsRequester, AllTell, TellsItsRequester}
 use Rattle.stays.proofs.Part.{Part, begun, onward, Whole, whole}
 use Rattle.stays.proofs.Every.{every-stay}
-use Rattle.stays.proofs.Turned.{Turned, opened, closed, carried, one-signal, hands}
+use Rattle.stays.proofs.Turned.{Turned, opened, closed, carried, one-signal}
 use Rattle.stays.proofs.TableLaws.{laws}
 use Rattle.stays.proofs.EachStay.{answer-of}
 
@@ -49,54 +44,15 @@ waits≢4 : (a : Side) → stateNumber (waitingOn a) ≡ 4 → ⊥
 waits≢4 Position h = omega arith
 waits≢4 Line h = omega arith
 
-module _ (g : Stage) (n : Invoke) (m : Message) where
-  -- the stage that a pickup asks for
-  picked : (f to : Stage) (i : Invoke) (w : Message) → pickedUp f to i w ≡ Becomes g n m → g ≡ to
-  picked Waits to i w h = cc h
-  picked AskedHere to i w h = absurd (let z : _≡_ {A = ℕ} 0 1 = cc h in omega arith)
-  picked (AskedFrom c) to i w h = absurd (let z : _≡_ {A = ℕ} 0 1 = cc h in omega arith)
-  picked Taken to i w h = absurd (let z : _≡_ {A = ℕ} 0 1 = cc h in omega arith)
-
-  -- an error leads back to the wait
-  back : (f : Stage) (b : Bool) (i : Invoke) → failed f b i ≡ Becomes g n m → g ≡ Waits
-  back Waits b i h = absurd (let z : _≡_ {A = ℕ} 0 1 = cc h in omega arith)
-  back AskedHere true i h = absurd (let z : _≡_ {A = ℕ} 0 1 = cc h in omega arith)
-  back AskedHere false i h = absurd (let z : _≡_ {A = ℕ} 0 1 = cc h in omega arith)
-  back (AskedFrom c) true i h = cc h
-  back (AskedFrom c) false i h = absurd (let z : _≡_ {A = ℕ} 0 1 = cc h in omega arith)
-  back Taken b i h = absurd (let z : _≡_ {A = ℕ} 0 1 = cc h in omega arith)
-
-  answer-ends : (s : State) → answered s ≡ Becomes g n m → ⊥
-  answer-ends Free h = let z : _≡_ {A = ℕ} 0 1 = cc h in omega arith
-  answer-ends ParkWaiting h = let z : _≡_ {A = ℕ} 0 1 = cc h in omega arith
-  answer-ends LineWaiting h = let z : _≡_ {A = ℕ} 0 1 = cc h in omega arith
-  answer-ends Requested h = let z : _≡_ {A = ℕ} 0 1 = cc h in omega arith
-  answer-ends RemoteRequested h = let z : _≡_ {A = ℕ} 0 1 = cc h in omega arith
-  answer-ends HandedOver h = let z : _≡_ {A = ℕ} 0 1 = cc h in omega arith
-
-  to-4 : (k : Signal) (a : Side) (r : Record) (e : Event) → turnOn k a r e ≡ Becomes g n m → stateNumber (stateAt a g) ≡ 4
-      → (k ≡ PickRequest) × (connectionAt g ≡ e .connection)
-  to-4 LocalPickup a r e t q =
-      let s : g ≡ AskedHere = picked (stageOf r) AskedHere (up (r .count)) (Connect (up (r .count))) t in
-      absurd (let z : _≡_ {A = ℕ} 3 4 = rw s at q in omega arith)
-  to-4 PickRequest a r e t q =
-      let s : g ≡ AskedFrom (e .connection) = picked (stageOf r) (AskedFrom (e .connection)) (up (r .count)) (Facility (up (r .count))) t in
-      (refl, rw s)
-  to-4 PickupResult a r e t q =
-      let s : g ≡ Taken = hands a r e g n m t in
-      absurd (let z : _≡_ {A = ℕ} 5 4 = rw s at q in omega arith)
-  to-4 PickupError a r e t q =
-      let s : g ≡ Waits = back (stageOf r) (isOutstanding r (e .invoke)) (r .count) t in
-      absurd (waits≢4 a (rw s at q))
-  to-4 ErrorInRelease a r e t q = absurd (let z : _≡_ {A = ℕ} 0 1 = cc (sym (error-in-release (stageOf r) (isOutstanding r (e .invoke))) ∙ t) in omega arith)
-  to-4 Release a r e t q = absurd (let z : _≡_ {A = ℕ} 0 1 = cc t in omega arith)
-  to-4 Answered a r e t q = absurd (answer-ends (r .state) t)
-  to-4 Expiry a r e t q = absurd (by (runs (timerSet a (r .state)) (e .timer)) (eqb (e .timer) 9) t)
-    where
-      by : (x y : Bool) → cond x (cond y (failed (stageOf r) true (r .count)) (timedOut (stageOf r))) (Refused TimerNotRunning) ≡ Becomes g n m → ⊥
-      by true true h = let s : g ≡ Waits = back (stageOf r) true (r .count) h in waits≢4 a (rw s at q)
-      by true false h = let z : _≡_ {A = ℕ} 0 1 = cc h in omega arith
-      by false y h = let z : _≡_ {A = ℕ} 0 1 = cc h in omega arith
+to-4 : (k : Signal) (a : Side) (r : Record) (e : Event) (g : Stage) (n : Invoke) (m : Message) → turnOn k a r e ≡ Becomes g n m
+    → stateNumber (stateAt a g) ≡ 4 → (k ≡ PickRequest) × (connectionAt g ≡ e .connection)
+to-4 k a r e g n m t q = by g n m (rw t at (does k a r e)) q
+  where
+    by : (g : Stage) (n : Invoke) (m : Message) → GoesOn k r e g n m → stateNumber (stateAt a g) ≡ 4 → (k ≡ PickRequest) × (connectionAt g ≡ e .connection)
+    by g n m (asked-here x w) h = absurd (omega arith)
+    by g n m (asked-from x w) h = (x, refl)
+    by g n m (handed-over c w) h = absurd (omega arith)
+    by g n m (turned-down x c w) h = absurd (waits≢4 a h)
 
 state-4 : (s : State) → stateNumber s ≡ 4 → s ≡ RemoteRequested
 state-4 Free h = absurd (omega arith)
@@ -112,7 +68,7 @@ module _ {p : ℕ} {r : Record} {e : Event} where
   requested : {a : Answer} {s : Record} → Turned p r e a s → stateNumber (s .state) ≡ 4 → (ruleOf (e .kind) ≡ On PickRequest) × (s .connection ≡ e .connection)
   requested (opened d o) q = absurd (waits≢4 (sideAt p) q)
   requested (closed k first second h t) q = absurd (omega arith)
-  requested (carried k g n m h t) q = let f = to-4 g n m k (sideAt p) r e t q in (h .rule ∙ ap On (f .0), f .1)
+  requested (carried k g n m h t) q = let f = to-4 k (sideAt p) r e g n m t q in (h .rule ∙ ap On (f .0), f .1)
 
   told-once : {a : Answer} {s : Record} → Turned p r e a s → stateNumber (r .state) ≡ 4 → RepliesOnce (r .connection) (a .first) (a .second)
   told-once (opened d o) q = absurd (let z : _≡_ {A = ℕ} 0 4 = rw (o .was) at q in omega arith)

@@ -27,10 +27,11 @@ use Rattle.events.specs.declared.rule.Signal.the-variants.{PickupResult}
 use Rattle.events.specs.declared.message.Message.{Message}
 use Rattle.events.specs.declared.message.Message.the-variants.{NoMessage}
 use Rattle.events.specs.declared.turn.Stage.{Stage}
-use Rattle.events.specs.declared.turn.Stage.the-variants.{Waits, AskedHere, AskedFrom, Taken}
+use Rattle.events.specs.declared.turn.Stage.the-variants.{Waits, Taken}
 use Rattle.events.specs.declared.turn.Outcome.the-variants.{Freed, Becomes}
 use Rattle.events.specs.Rule.{ruleOf}
-use Rattle.events.specs.Turn.{stateAt, heldRecord, greeting, stageOf, isOutstanding, resulted, turnOn}
+use Rattle.events.specs.Turn.{stateAt, heldRecord, greeting, turnOn}
+use Rattle.events.proofs.Outcomes.{GoesOn, asked-here, asked-from, handed-over, turned-down, does}
 use Rattle.events.specs.Answers.{accepted}
 use Rattle.step.specs.Promises.{namesCall, Move, starts as from-free, goes-on as still-offered, hands-over, ends as to-free, is-left}
 use Rattle.step.proofs.Aims.{free-number}
@@ -92,15 +93,13 @@ only-left is-left q = refl
 
 -- a result that does not end the stay hands the call over
 pub hands : (a : Side) (r : Record) (e : Event) (g : Stage) (n : Invoke) (m : Message) → turnOn PickupResult a r e ≡ Becomes g n m → g ≡ Taken
-hands a r e g n m t = by (stageOf r) (isOutstanding r (e .invoke)) t
+hands a r e g n m t = by g n m (rw t at (does PickupResult a r e))
   where
-    by : (f : Stage) (b : Bool) → resulted f b (r .count) ≡ Becomes g n m → g ≡ Taken
-    by Waits b q = absurd (let z : _≡_ {A = ℕ} 0 1 = cc q in omega arith)
-    by AskedHere true q = absurd (let z : _≡_ {A = ℕ} 0 1 = cc q in omega arith)
-    by AskedHere false q = absurd (let z : _≡_ {A = ℕ} 0 1 = cc q in omega arith)
-    by (AskedFrom c) true q = cc q
-    by (AskedFrom c) false q = absurd (let z : _≡_ {A = ℕ} 0 1 = cc q in omega arith)
-    by Taken b q = absurd (let z : _≡_ {A = ℕ} 0 1 = cc q in omega arith)
+    by : (g : Stage) (n : Invoke) (m : Message) → GoesOn PickupResult r e g n m → g ≡ Taken
+    by g n m (asked-here x w) = absurd (let z : _≡_ {A = ℕ} 0 1 = cc x in omega arith)
+    by g n m (asked-from x w) = absurd (let z : _≡_ {A = ℕ} 0 1 = cc x in omega arith)
+    by g n m (handed-over c w) = refl
+    by g n m (turned-down x c w) = absurd (x refl)
 
 -- the record of a stage holds its call
 stage-holds : (a : Side) (g : Stage) (call : List ℕ) (n : Invoke) → holds call (heldRecord a g call n) ≡ true

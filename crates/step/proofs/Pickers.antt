@@ -31,7 +31,8 @@ use Rattle.events.specs.Message.{sent}
 use Rattle.events.specs.Refusal.{refusalMessage}
 use Rattle.events.specs.Reply.{replies, RepliesOnce}
 use Rattle.events.specs.Turn.{stateAt, heldRecord, greeting}
-use Rattle.events.proofs.Replies.{isOut, told, silent}
+use Rattle.events.proofs.Outcomes.{isOut}
+use Rattle.events.proofs.Replies.{told, silent}
 use Rattle.step.specs.declared.Step.{Step}
 use Rattle.step.specs.Step.{stepOf}
 use Rattle.step.specs.Promises.{Leaves4, PickerToldOnce, leaves, refused, RepliesHaveCause}

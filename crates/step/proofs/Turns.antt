@@ -1,11 +1,10 @@
 -- One record: what the record of a stage is like, that a turn which goes on is one of the five moves, and what a result does in state 4.
 -- Assumes nothing.
-use mathlib.Core.Path.{_≡_, refl}
-use mathlib.Core.Bool.{Bool, true, false, cond, true≢false}
+use mathlib.Core.Path.{_≡_, refl, sym, ap, _∙_}
+use mathlib.Core.Bool.{Bool, true, false, true≢false}
 use mathlib.Core.Logic.{_⊎_, inl, inr}
 use Prim.Native.Nat.{ℕ}
 use native.Mathlib.Omega.{arith}
-use lib.Dec.{eqb}
 use Rattle.table.specs.declared.Invoke.{Invoke}
 use Rattle.table.specs.declared.State.{State}
 use Rattle.table.specs.declared.State.the-variants.{Free, ParkWaiting, LineWaiting, Requested, RemoteRequested, HandedOver}
@@ -13,18 +12,18 @@ use Rattle.table.specs.declared.Side.{Side}
 use Rattle.table.specs.declared.Side.the-variants.{Position, Line}
 use Rattle.table.specs.declared.Record.{Record}
 use Rattle.table.specs.Places.{stateNumber, isFree, waitingOn, noConnection}
-use Rattle.table.specs.Timers.{timerSet}
 use Rattle.table.specs.Sound.{fitsSide}
 use Rattle.events.specs.declared.Event.{Event}
 use Rattle.events.specs.declared.rule.Signal.{Signal}
-use Rattle.events.specs.declared.rule.Signal.the-variants.{LocalPickup, PickRequest, PickupResult, PickupError, ErrorInRelease, Release, Answered, Expiry}
+use Rattle.events.specs.declared.rule.Signal.the-variants.{PickupResult}
 use Rattle.events.specs.declared.message.Message.{Message}
 use Rattle.events.specs.declared.message.Message.the-variants.{PickResult}
-use Rattle.events.specs.declared.refusal.Refusal.the-variants.{StateUnfit, NotOutstanding, TimerNotRunning}
+use Rattle.events.specs.declared.refusal.Refusal.the-variants.{NotOutstanding}
 use Rattle.events.specs.declared.turn.Stage.{Stage}
 use Rattle.events.specs.declared.turn.Stage.the-variants.{Waits, AskedHere, AskedFrom, Taken}
 use Rattle.events.specs.declared.turn.Outcome.the-variants.{Refused, Becomes}
-use Rattle.events.specs.Turn.{stateAt, connectionAt, isOutstanding, ifOutstanding, runs, timedOut, turnOn}
+use Rattle.events.specs.Turn.{stageBy, stageOf, stateAt, connectionAt, isOutstanding, ifOutstanding, turnOn}
+use Rattle.events.proofs.Outcomes.{GoesOn, asked-here, asked-from, handed-over, turned-down, does}
 use Rattle.step.specs.Promises.{offered, Move, goes-on, hands-over, ends, is-left}
 
 pub stage-fits : (a : Side) (g : Stage) → fitsSide a (stateAt a g) ≡ true
@@ -74,19 +73,16 @@ move-stage a Taken h = hands-over h
 
 -- from state 5 a stay only ends
 taken-ends : (k : Signal) (a : Side) (r : Record) (e : Event) (g : Stage) (n : Invoke) (m : Message) → r .state ≡ HandedOver → turnOn k a r e ≡ Becomes g n m → ⊥
-taken-ends LocalPickup a r e g n m q h = let w = rw q at h in let z : _≡_ {A = ℕ} 0 1 = cc w in omega arith
-taken-ends PickRequest a r e g n m q h = let w = rw q at h in let z : _≡_ {A = ℕ} 0 1 = cc w in omega arith
-taken-ends PickupResult a r e g n m q h = let w = rw q at h in let z : _≡_ {A = ℕ} 0 1 = cc w in omega arith
-taken-ends PickupError a r e g n m q h = let w = rw q at h in let z : _≡_ {A = ℕ} 0 1 = cc w in omega arith
-taken-ends ErrorInRelease a r e g n m q h = let w = rw q at h in let z : _≡_ {A = ℕ} 0 1 = cc w in omega arith
-taken-ends Release a r e g n m q h = let z : _≡_ {A = ℕ} 0 1 = cc h in omega arith
-taken-ends Answered a r e g n m q h = let w = rw q at h in let z : _≡_ {A = ℕ} 0 1 = cc w in omega arith
-taken-ends Expiry a r e g n m q h = by (runs (timerSet a HandedOver) (e .timer)) (eqb (e .timer) 9) (rw q at h)
+taken-ends k a r e g n m q h = by g n m (rw h at (does k a r e))
   where
-    by : (x y : Bool) → cond x (cond y (Refused StateUnfit) (timedOut Taken)) (Refused TimerNotRunning) ≡ Becomes g n m → ⊥
-    by true true w = let z : _≡_ {A = ℕ} 0 1 = cc in omega arith
-    by true false w = let z : _≡_ {A = ℕ} 0 1 = cc in omega arith
-    by false y w = let z : _≡_ {A = ℕ} 0 1 = cc in omega arith
+    taken : stageOf r ≡ Taken
+    taken = ap (λ s. stageBy s (r .connection)) q
+
+    by : (g : Stage) (n : Invoke) (m : Message) → GoesOn k r e g n m → ⊥
+    by g n m (asked-here x w) = let z : _≡_ {A = ℕ} 0 1 = cc (sym taken ∙ w) in omega arith
+    by g n m (asked-from x w) = let z : _≡_ {A = ℕ} 0 1 = cc (sym taken ∙ w) in omega arith
+    by g n m (handed-over c w) = let z : _≡_ {A = ℕ} 0 1 = cc (sym taken ∙ w) in omega arith
+    by g n m (turned-down x c w) = let z : _≡_ {A = ℕ} 0 1 = cc (sym taken ∙ w) in omega arith
 
 -- a stay that goes on
 pub move-on : (k : Signal) (a : Side) (r : Record) (e : Event) (g : Stage) (n : Invoke) (m : Message) → isFree (r .state) ≡ false

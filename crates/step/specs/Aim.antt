@@ -1,6 +1,6 @@
 -- Which place an event is for (document 01, "Events" and refusals 1 to 6). Matching is by call, and by nothing else.
 -- Assumes nothing.
-use mathlib.Core.Bool.{Bool, true, false, cond, _&&_}
+use mathlib.Core.Bool.{Bool, cond, _&&_}
 use Prim.Native.Nat.{ℕ, zero, suc}
 use lib.Dec.{eqb}
 use Rattle.table.specs.declared.Place.{Place}

@@ -1,20 +1,18 @@
 -- What a search says of the records: the index that it finds is in the table and passes the test; where it finds none, no record passes.
 -- Assumes nothing.
-use mathlib.Core.Path.{_≡_, refl, sym, ap, _∙_, subst}
-use mathlib.Core.Bool.{Bool, true, false, cond, not, _&&_}
+use mathlib.Core.Path.{_≡_, refl, sym, _∙_, subst}
+use mathlib.Core.Bool.{Bool, true, false, cond}
 use mathlib.Core.List.{List, [], _∷_}
-use Prim.Native.Nat.{ℕ, zero, suc, _+_, _<_, _≤_}
+use Prim.Native.Nat.{ℕ, zero, suc, _+_, _<_}
 use native.Mathlib.Nat.{add-zero, zero-add, not-suc-le-zero, le-of-suc-le-suc}
 use native.Mathlib.Omega.{arith}
 use lib.ListN.{length, getD}
-use Rattle.table.specs.declared.State.{State}
-use Rattle.table.specs.declared.Side.{Side}
 use Rattle.table.specs.declared.Record.{Record}
 use Rattle.table.specs.declared.Table.{Table}
 use Rattle.table.specs.declared.Found.{Found}
 use Rattle.table.specs.declared.Found.the-variants.{At, Nothing}
 use Rattle.table.specs.Places.{blank, recordAt}
-use Rattle.table.specs.Search.{lowest, holds, findCall, isAt, lowestIn}
+use Rattle.table.specs.Search.{lowest}
 
 -- the k-th record of a list, which is counted from i, is the one found
 pub record Hit (p : ℕ → Record → Bool) (i : ℕ) (l : List Record) (j : ℕ) : Type 0 where

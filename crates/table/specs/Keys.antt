@@ -1,8 +1,8 @@
 -- A number of each record, for speed only: records of the same call have the same key. No statement of the table depends on it.
 -- Assumes nothing.
-use mathlib.Core.Bool.{Bool, cond}
+use mathlib.Core.Bool.{cond}
 use mathlib.Core.List.{List, [], _∷_}
-use Prim.Native.Nat.{ℕ, _+_, _*_, _%_, _^_}
+use Prim.Native.Nat.{ℕ, _*_, _%_, _^_}
 use lib.Bits.{bitXor}
 use lib.ListN.{drop}
 use Rattle.table.specs.declared.Record.{Record}

@@ -1,6 +1,6 @@
 -- The status query (document 01, "Status gives .."): four sums over the places.
 -- Assumes nothing.
-use mathlib.Core.Bool.{Bool, true, false, cond}
+use mathlib.Core.Bool.{cond}
 use Prim.Native.Nat.{ℕ}
 use lib.Count.{ones}
 use Rattle.table.specs.declared.State.{State}
