@@ -129,12 +129,8 @@ fn put_event(e: Event, out: &mut [u8]) -> usize
 pub fn event_length(e: Event) -> usize
     ensures { λ r. ⌜ r ≡ length (eventLine e) ⌝ }
 {
-    let first = numbers::digits(e.kind as u64)
-        + numbers::digits(e.place.0 as u64)
-        + numbers::digits(e.choice as u64);
-    let last = numbers::digits(e.connection.0 as u64)
-        + numbers::digits(e.invoke.0 as u64)
-        + numbers::digits(e.timer as u64);
+    let first = numbers::digits_together(e.kind as u64, e.place.0 as u64, e.choice as u64);
+    let last = numbers::digits_together(e.connection.0 as u64, e.invoke.0 as u64, e.timer as u64);
     first + last + 38
 }
 
@@ -181,20 +177,19 @@ fn put_answer(a: Answer, out: &mut [u8]) -> usize
 fn sent_length(x: Sent) -> usize
     ensures { λ r. ⌜ r ≡ length (sentLine x) ⌝ }
 {
-    numbers::digits(x.message as u64)
-        + numbers::digits(x.connection.0 as u64)
-        + numbers::digits(x.invoke.0 as u64)
-        + numbers::digits(x.error as u64)
-        + 3
+    let first = numbers::digits_together(
+        x.message as u64,
+        x.connection.0 as u64,
+        x.invoke.0 as u64,
+    );
+    first + numbers::digits(x.error as u64) + 3
 }
 
 // How many octets the line of an answer has, its line feed included.
 pub fn answer_length(a: Answer) -> usize
     ensures { λ r. ⌜ r ≡ length (answerLine a) ⌝ }
 {
-    let head = numbers::digits(a.number as u64)
-        + numbers::digits(a.place.0 as u64)
-        + numbers::digits(a.state as u64);
+    let head = numbers::digits_together(a.number as u64, a.place.0 as u64, a.state as u64);
     let timers = numbers::digits(a.started as u64) + numbers::digits(a.stopped as u64);
     let messages = sent_length(a.first) + sent_length(a.second);
     head + timers + messages + 40

@@ -73,6 +73,13 @@ pub fn digits(n: u64) -> usize
     }
 }
 
+// How many digits three numbers have together.
+pub(crate) fn digits_together(a: u64, b: u64, c: u64) -> usize
+    ensures { λ r. ⌜ r ≡ length (decimal a) + length (decimal b) + length (decimal c) ⌝ }
+{
+    digits(a) + digits(b) + digits(c)
+}
+
 // Writes a number from an index of the buffer on, and gives the index after it.
 pub(crate) fn put_number(out: &mut [u8], at: usize, n: u64) -> usize
     requires { ⌜ at + length (decimal n) ≤ length (now out) ⌝ }

@@ -48,7 +48,7 @@ pub record Bare (x : Sent) : Type 0 where
 pub record Light (a : Answer) : Type 0 where
   -- a refusal names no place
   pub number-or-place : (a .number ≡ 0) ⊎ (a .place ≡ noPlace)
-  -- "connection and invoke are never both set in one message"
+  -- no message has both: "Connection, the picker's, is set only with messages 5 and 6, invoke, the count, only with 3 and 4."
   pub first : (a .first .connection ≡ noConnection) ⊎ (a .first .invoke ≡ noInvoke)
   pub second : (a .second .connection ≡ noConnection) ⊎ (a .second .invoke ≡ noInvoke)
   -- nor is either set in both messages of an answer

@@ -5,36 +5,21 @@ use mathlib.Core.Path.{_≡_}
 use Prim.Native.Nat.{_+_, _≤_}
 use native.Mathlib.Omega.{arith}
 use lib.ListN.{length}
-use borrow.Author.Needs.{needs}
 use Rattle.events.specs.declared.Answer.{Answer}
 use Rattle.lines.specs.Numbers.{decimal}
 use Rattle.lines.specs.AnswerLine.{sentLine}
 use Rattle.lines.proofs.Decimal.{decimal-twenty}
 use Rattle.lines.proofs.Lengths.{length-answer, sent-few}
+use borrow.Author.Needs.{needs}
 use Rattle.lines.proofs.answer_length.Statement.{statement}
 use Rattle.lines.proofs.answer_length.Tie as tie
 
--- the start, from the place after each call
-abbrev S1 : tie.After-digits → tie.Start
-S1 c = c .before .before
+-- the start, from the place after the timers and from that after the last call
+abbrev S1 : tie.After-digits2 → tie.Start
+S1 c = c .before .before .before .before .before .before .before .before
 
-abbrev S2 : tie.After-digits2 → tie.Start
+abbrev S2 : tie.After-sent-length2 → tie.Start
 S2 c = S1 (c .before .before)
-
-abbrev S3 : tie.After-digits3 → tie.Start
-S3 c = S2 (c .before .before)
-
-abbrev S4 : tie.After-digits4 → tie.Start
-S4 c = S3 (c .before .before)
-
-abbrev S5 : tie.After-digits5 → tie.Start
-S5 c = S4 (c .before .before)
-
-abbrev S6 : tie.After-sent-length → tie.Start
-S6 c = S5 (c .before)
-
-abbrev S7 : tie.After-sent-length2 → tie.Start
-S7 c = S6 (c .before)
 
 -- the parts of the sum that the code makes are parts of this one
 few : (a : Answer)
@@ -57,6 +42,18 @@ few a =
 long : (c : tie.Start) → length (c .args .a .call) ≡ 16
 long c = search needs
 
+cast-digits-together : tie.Need-cast-digits-together
+cast-digits-together c = search needs
+
+cast-digits-together-2 : tie.Need-cast-digits-together-2
+cast-digits-together-2 c = search needs
+
+cast-digits-together-3 : tie.Need-cast-digits-together-3
+cast-digits-together-3 c = search needs
+
+digits-together-requires : tie.Need-digits-together-requires
+digits-together-requires c κs = search needs
+
 cast-digits : tie.Need-cast-digits
 cast-digits c = search needs
 
@@ -69,32 +66,8 @@ cast-digits-2 c = search needs
 digits-requires-2 : tie.Need-digits-requires-2
 digits-requires-2 c κs = search needs
 
-add-head : tie.Need-add-head
-add-head c = omega (arith, few (S2 c .args .a))
-
-cast-digits-3 : tie.Need-cast-digits-3
-cast-digits-3 c = search needs
-
-digits-requires-3 : tie.Need-digits-requires-3
-digits-requires-3 c κs = search needs
-
-add-head-2 : tie.Need-add-head-2
-add-head-2 c = omega (arith, few (S3 c .args .a))
-
-cast-digits-4 : tie.Need-cast-digits-4
-cast-digits-4 c = search needs
-
-digits-requires-4 : tie.Need-digits-requires-4
-digits-requires-4 c κs = search needs
-
-cast-digits-5 : tie.Need-cast-digits-5
-cast-digits-5 c = search needs
-
-digits-requires-5 : tie.Need-digits-requires-5
-digits-requires-5 c κs = search needs
-
 add-timers : tie.Need-add-timers
-add-timers c = omega (arith, few (S5 c .args .a))
+add-timers c = omega (arith, few (S1 c .args .a))
 
 sent-length-requires : tie.Need-sent-length-requires
 sent-length-requires c κs = search needs
@@ -103,36 +76,32 @@ sent-length-requires-2 : tie.Need-sent-length-requires-2
 sent-length-requires-2 c κs = search needs
 
 add-messages : tie.Need-add-messages
-add-messages c = omega (arith, few (S7 c .args .a))
+add-messages c = omega (arith, few (S2 c .args .a))
 
 add-result : tie.Need-add-result
-add-result c = omega (arith, few (S7 c .args .a))
+add-result c = omega (arith, few (S2 c .args .a))
 
 add-result-2 : tie.Need-add-result-2
-add-result-2 c = omega (arith, few (S7 c .args .a))
+add-result-2 c = omega (arith, few (S2 c .args .a))
 
 add-result-3 : tie.Need-add-result-3
-add-result-3 c = omega (arith, few (S7 c .args .a))
+add-result-3 c = omega (arith, few (S2 c .args .a))
 
 returns : tie.Need-returns
-returns c = omega (arith, length-answer (S7 c .args .a) (long (S7 c)))
+returns c = omega (arith, length-answer (S2 c .args .a) (long (S2 c)))
 
 pub answer-length-spec : {M : Type 1} → statement M
 answer-length-spec =
     tie.close
     (tie.spec
+    cast-digits-together
+    cast-digits-together-2
+    cast-digits-together-3
+    digits-together-requires
     cast-digits
     digits-requires
     cast-digits-2
     digits-requires-2
-    add-head
-    cast-digits-3
-    digits-requires-3
-    add-head-2
-    cast-digits-4
-    digits-requires-4
-    cast-digits-5
-    digits-requires-5
     add-timers
     sent-length-requires
     sent-length-requires-2
