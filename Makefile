@@ -30,6 +30,7 @@ install: $(LIBRARY) $(PROGRAM)
 	install -m 755 $(PROGRAM) $(INSTALLED)/bin/parkline
 	install -m 644 man/parkline.1 $(INSTALLED)/share/man/man1/parkline.1
 	install -m 644 man/park_step.3 $(INSTALLED)/share/man/man3/park_step.3
+	install -m 644 man/park_bad_field.3 $(INSTALLED)/share/man/man3/park_bad_field.3
 
 # the library and the program beside the peer's, as one table in Markdown; cargo bench builds in release mode
 bench: $(LIBRARY) $(PROGRAM)

@@ -16,6 +16,7 @@ cat > "$root/wanted" <<'END'
 ./include/park.h
 ./lib/libpark.a
 ./share/man/man1/parkline.1
+./share/man/man3/park_bad_field.3
 ./share/man/man3/park_step.3
 END
 (cd "$at" && find . -type f | LC_ALL=C sort) > "$root/found"
@@ -39,6 +40,8 @@ lint() {
 }
 lint "$at/share/man/man1/parkline.1" > "$root/warnings"
 lint "$at/share/man/man3/park_step.3" >> "$root/warnings"
+# this page is a reference to that one, which is looked for below the folder of the man pages
+(cd "$at/share/man" && lint man3/park_bad_field.3) >> "$root/warnings"
 diff /dev/null "$root/warnings"
 
-echo "install: the five files are there, and the example host and parkline answer as expected from them"
+echo "install: the six files are there, and the example host and parkline answer as expected from them"

@@ -62,6 +62,7 @@ struct message {
 
 struct answer {
     unsigned number, place, state, started, stopped;
+    unsigned bad_field; /* of the event's line; no field of the answer */
     char call[CALL_DIGITS + 1];
     struct message first, second;
 };
@@ -96,6 +97,7 @@ static struct answer step(const struct event *e)
                        e->connection, e->invoke, e->timer);
     size_t n = park_step(image, sizeof image, (const uint8_t *)line, (size_t)len, (uint8_t *)text, PARK_ANSWER_OCTETS);
     text[n] = '\0';
+    a.bad_field = park_bad_field((const uint8_t *)line, (size_t)len);
     if (sscanf(text, "%u %32s %u %u %u %u %u %u %u %u %u %u %u %u", &a.number, a.call, &a.place, &a.state,
                &a.first.number, &a.first.connection, &a.first.invoke, &a.first.error, &a.started, &a.stopped,
                &a.second.number, &a.second.connection, &a.second.invoke, &a.second.error) != 14)
@@ -144,6 +146,25 @@ static void set_clocks(struct held *h, const struct answer *a)
     }
 }
 
+/* Why a call that a pickup names is not to be had. This is for the clerk: on the wire the three are one error. */
+static const char *taken_how(unsigned number)
+{
+    switch (number) {
+    case 7: return "it is being picked up here";
+    case 11: return "it is being picked up elsewhere";
+    case 12: return "it has been handed over";
+    default: return NULL;
+    }
+}
+
+static void tell_refusal(const struct answer *a)
+{
+    printf("    refused by %u", a->number);
+    if (taken_how(a->number) != NULL) printf(": %s", taken_how(a->number));
+    if (a->bad_field != 0) printf(": field %u of the line is bad", a->bad_field);
+    printf("\n");
+}
+
 /* Passes an event to the table and does what the answer says. */
 static void take(const struct event *e)
 {
@@ -151,7 +172,7 @@ static void take(const struct event *e)
     struct held *h = &held[a.place];
     if (a.number != 0) {
         /* the table is as it was and no clock changes, but a refused park or pickrequ still has its error to send */
-        printf("    refused by %u\n", a.number);
+        tell_refusal(&a);
         send_messages(&a, e->link);
         return;
     }

@@ -1,6 +1,6 @@
 /*
- * park_step from C: the session of the scope paper, what a picker is told, every refusal that only the entry can give, and what is left in
- * each buffer. The expected lines are the paper's own, or follow from a sentence of it or of a change request that stands beside them. Each
+ * park_step and park_bad_field from C: the session of the scope paper, what a picker is told, why a call is taken, every refusal that only
+ * the entry can give, the field to blame, and what is left in each buffer. The expected lines are the paper's own, or follow from a sentence of it or of a change request that stands beside them. Each
  * buffer is framed by guard octets.
  */
 #include "park.h"
@@ -91,6 +91,8 @@ static void text(const char *s) { set(&line, s, strlen(s)); }
 #define PARKED_17 "0\t" ONE "\t17\t1\t1\t0\t0\t0\t1\t0" NO_SECOND
 /* "The answer then has zeros everywhere but its number" */
 #define ONLY(number) number "\t" ZEROS "\t0\t0\t0\t0\t0\t0\t0\t0" NO_SECOND
+/* "message 6, the event's connection and its error", which is 2, callAlreadyPickedUp */
+#define TAKEN_901 "\t" ZEROS "\t0\t0\t6\t901\t0\t2\t0\t0" NO_SECOND
 
 /*
  * The record of call ONE: "per place 21 octets, place 1 first: state, call, connection, count, the last two high octet first". In state 4
@@ -232,6 +234,33 @@ static void longest_answers(void)
     }
 }
 
+/*
+ * Q-3: "Keep 7 for state 3, and use 11 for state 4 and 12 for state 5. On the wire all three stay callAlreadyPickedUp." A local pickup sends
+ * nothing.
+ */
+static void taken(void)
+{
+    static const struct {
+        uint8_t state;
+        const char *local, *remote;
+    } why[] = {
+        {3, ONLY("7"), "7" TAKEN_901},
+        {4, ONLY("11"), "11" TAKEN_901},
+        {5, ONLY("12"), "12" TAKEN_901},
+    };
+    static const int places[] = {1, 64, 65, 96};
+    size_t i, p;
+    for (i = 0; i < sizeof why / sizeof *why; i++)
+        for (p = 0; p < sizeof places / sizeof *places; p++) {
+            clear(&image, 0, PARK_IMAGE_OCTETS);
+            put_record(record(places[p]), why[i].state, 1);
+            text("3\t" ONE "\t0\t0\t0\t0\t0");
+            answers(why[i].local, 0);
+            text("4\t" ONE "\t0\t0\t901\t0\t0");
+            answers(why[i].remote, 0);
+        }
+}
+
 static void bad_images(void)
 {
     size_t len;
@@ -285,16 +314,30 @@ static void bad_images(void)
     }
 }
 
+/* The line is refused so, and the query names this field (Q-3: "its first bad field, 1 to 7, or 0 when no single field is to blame"). */
+static void refused_line(const char *says, unsigned field)
+{
+    struct buffer before = line;
+    answers(says, 0);
+    expect(park_bad_field(start(&line), line.len) == field, "the first bad field");
+    expect(memcmp(&before, &line, sizeof line) == 0, "the query keeps the line");
+}
+
 /* 21 to 24, in that order; "A line feed inside it makes its field bad." */
 static void bad_lines(void)
 {
     static const char *const twenty_two[] = {"", "\t", "1\t" ONE "\t17\t0\t0\t0", "1\t" ONE "\t17\t0\t0\t0\t0\t0", "1 " ONE " 17 0 0 0 0"};
-    static const char *const twenty_three[] = {
-        "\t" ONE "\t17\t0\t0\t0\t0", "01\t" ONE "\t17\t0\t0\t0\t0", "256\t" ONE "\t17\t0\t0\t0\t0", "x\t" ONE "\t17\t0\t0\t0\t0",
-        "1\t" ONE "\t\t0\t0\t0\t0", "1\t" ONE "\t65536\t0\t0\t0\t0", "1\t" ONE "\t-1\t0\t0\t0\t0", "1\t" ONE "\t+1\t0\t0\t0\t0",
-        "1\t" ONE "\t17\t256\t0\t0\t0", "1\t" ONE "\t17\t0\t65536\t0\t0", "1\t" ONE "\t17\t0\t0\t65536\t0", "1\t" ONE "\t17\t0\t0\t0\t256",
-        "1\t" ONE "\t17\t0\t0\t0\t00", "1\t" ONE "\t17\n\t0\t0\t0\t0", "1\n\t" ONE "\t17\t0\t0\t0\t0", "1\t" ONE "\t17\t0\t0\t0\t0\n",
-        "1\t" ONE "\t17\t0\t0\t0\t0\r", "01\tx\t17\t0\t0\t0\t0",
+    static const struct {
+        unsigned field;
+        const char *line;
+    } twenty_three[] = {
+        {1, "\t" ONE "\t17\t0\t0\t0\t0"}, {1, "01\t" ONE "\t17\t0\t0\t0\t0"}, {1, "256\t" ONE "\t17\t0\t0\t0\t0"},
+        {1, "x\t" ONE "\t17\t0\t0\t0\t0"}, {3, "1\t" ONE "\t\t0\t0\t0\t0"}, {3, "1\t" ONE "\t65536\t0\t0\t0\t0"},
+        {3, "1\t" ONE "\t-1\t0\t0\t0\t0"}, {3, "1\t" ONE "\t+1\t0\t0\t0\t0"}, {4, "1\t" ONE "\t17\t256\t0\t0\t0"},
+        {5, "1\t" ONE "\t17\t0\t65536\t0\t0"}, {6, "1\t" ONE "\t17\t0\t0\t65536\t0"}, {7, "1\t" ONE "\t17\t0\t0\t0\t256"},
+        {7, "1\t" ONE "\t17\t0\t0\t0\t00"}, {3, "1\t" ONE "\t17\n\t0\t0\t0\t0"}, {1, "1\n\t" ONE "\t17\t0\t0\t0\t0"},
+        {7, "1\t" ONE "\t17\t0\t0\t0\t0\n"}, {7, "1\t" ONE "\t17\t0\t0\t0\t0\r"}, {1, "01\tx\t17\t0\t0\t0\t0"},
+        {1, "\t\t\t\t\t\t"}, {3, "1\t" ONE "\tx\tx\tx\tx\tx"}, {6, "1\t" ONE "\t17\t0\t0\t\t"},
     };
     static const char *const twenty_four[] = {
         "1\t\t17\t0\t0\t0\t0", "1\t0000000000000000000000000000001\t17\t0\t0\t0\t0", "1\t000000000000000000000000000000001\t17\t0\t0\t0\t0",
@@ -304,20 +347,20 @@ static void bad_lines(void)
     char longest[LARGEST];
     size_t i, len;
     clear(&image, 0, PARK_IMAGE_OCTETS);
-    for (len = 63; len < 200; len++) memset(longest, '\t', len), set(&line, longest, len), answers(ONLY("21"), 0);
+    for (len = 63; len < 200; len++) memset(longest, '\t', len), set(&line, longest, len), refused_line(ONLY("21"), 0);
     memset(longest, '1', sizeof longest);
     set(&line, longest, sizeof longest);
-    answers(ONLY("21"), 0);
+    refused_line(ONLY("21"), 0);
     memset(longest, '\t', 62);
     set(&line, longest, 62);
-    answers(ONLY("22"), 0);
-    for (i = 0; i < sizeof twenty_two / sizeof *twenty_two; i++) text(twenty_two[i]), answers(ONLY("22"), 0);
-    for (i = 0; i < sizeof twenty_three / sizeof *twenty_three; i++) text(twenty_three[i]), answers(ONLY("23"), 0);
-    for (i = 0; i < sizeof twenty_four / sizeof *twenty_four; i++) text(twenty_four[i]), answers(ONLY("24"), 0);
-    /* the longest line reads: 62 octets; kind 255 is refused by 1 */
+    refused_line(ONLY("22"), 0);
+    for (i = 0; i < sizeof twenty_two / sizeof *twenty_two; i++) text(twenty_two[i]), refused_line(ONLY("22"), 0);
+    for (i = 0; i < sizeof twenty_three / sizeof *twenty_three; i++) text(twenty_three[i].line), refused_line(ONLY("23"), twenty_three[i].field);
+    for (i = 0; i < sizeof twenty_four / sizeof *twenty_four; i++) text(twenty_four[i]), refused_line(ONLY("24"), 2);
+    /* the longest line reads: 62 octets; kind 255 is refused by 1, and that is not for a bad field */
     text("255\t" ONE "\t65535\t255\t65535\t65535\t255");
     expect(line.len == 62, "the longest line has 62 octets");
-    answers(ONLY("1"), 0);
+    refused_line(ONLY("1"), 0);
 }
 
 /* An accepted event changes the octets of its own place and no others. */
@@ -349,6 +392,7 @@ int main(void)
     short_answers();
     picker_told();
     longest_answers();
+    taken();
     bad_images();
     bad_lines();
     one_place();

@@ -1,4 +1,5 @@
 pub mod Released
 pub mod Outcomes
 pub mod Replies
+pub mod Refusals
 pub mod Unique

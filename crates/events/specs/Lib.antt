@@ -2,6 +2,7 @@ pub mod Rule
 pub mod Message
 pub mod Refusal
 pub mod Turn
+pub mod Taken
 pub mod Sought
 pub mod Reply
 pub mod Answers

@@ -1,4 +1,5 @@
--- The refusals (document 01, "Refusal numbers"): the paper's number of each, and the message that goes with it.
+-- The refusals (document 01, "Refusal numbers"; document 02, Q-3), in the order in which they are checked: the paper's number of each, and the
+-- message that goes with it.
 -- Assumes nothing.
 use Prim.Native.Nat.{ℕ}
 use Rattle.table.specs.declared.Connection.{Connection}
@@ -10,7 +11,7 @@ use Rattle.events.specs.declared.message.Message.{Message}
 use Rattle.events.specs.declared.message.Message.the-variants.{NoMessage, ParkError, PickError}
 use Rattle.events.specs.declared.message.ErrorValue.the-variants.{Undefined, CallAlreadyPickedUp}
 use Rattle.events.specs.declared.refusal.Refusal.{Refusal}
-use Rattle.events.specs.declared.refusal.Refusal.the-variants.{UnknownKind, ChoiceOrTimer, CallHeld, SideFull, CallNotHeld, NothingWaits, PickupPending, StateUnfit, NotOutstanding, TimerNotRunning, TableUnsound}
+use Rattle.events.specs.declared.refusal.Refusal.the-variants.{UnknownKind, ChoiceOrTimer, CallHeld, SideFull, CallNotHeld, NothingWaits, PickupHere, PickupElsewhere, CallHandedOver, StateUnfit, NotOutstanding, TimerNotRunning, TableUnsound}
 
 abbrev pub refusalNumber : Refusal → ℕ
 refusalNumber UnknownKind = 1
@@ -19,7 +20,9 @@ refusalNumber CallHeld = 3
 refusalNumber SideFull = 4
 refusalNumber CallNotHeld = 5
 refusalNumber NothingWaits = 6
-refusalNumber PickupPending = 7
+refusalNumber PickupHere = 7
+refusalNumber PickupElsewhere = 11
+refusalNumber CallHandedOver = 12
 refusalNumber StateUnfit = 8
 refusalNumber NotOutstanding = 9
 refusalNumber TimerNotRunning = 10
@@ -33,13 +36,16 @@ parkRefused CallHeld = ParkError
 parkRefused SideFull = ParkError
 parkRefused CallNotHeld = NoMessage
 parkRefused NothingWaits = NoMessage
-parkRefused PickupPending = NoMessage
+parkRefused PickupHere = NoMessage
+parkRefused PickupElsewhere = NoMessage
+parkRefused CallHandedOver = NoMessage
 parkRefused StateUnfit = NoMessage
 parkRefused NotOutstanding = NoMessage
 parkRefused TimerNotRunning = NoMessage
 parkRefused TableUnsound = NoMessage
 
--- "a pickrequ refused by 2, 5, 6 or 7 has message 6, the event's connection and its error": 1, "but 2 with refusal 7"
+-- "a pickrequ refused by 2, 5, 6 or 7 has message 6, the event's connection and its error": 1, "but 2 with refusal 7". Q-3: with 11 and 12 as
+-- with 7
 abbrev pub pickRequestRefused : Refusal → Connection → Message
 pickRequestRefused UnknownKind c = NoMessage
 pickRequestRefused ChoiceOrTimer c = PickError c Undefined
@@ -47,7 +53,9 @@ pickRequestRefused CallHeld c = NoMessage
 pickRequestRefused SideFull c = NoMessage
 pickRequestRefused CallNotHeld c = PickError c Undefined
 pickRequestRefused NothingWaits c = PickError c Undefined
-pickRequestRefused PickupPending c = PickError c CallAlreadyPickedUp
+pickRequestRefused PickupHere c = PickError c CallAlreadyPickedUp
+pickRequestRefused PickupElsewhere c = PickError c CallAlreadyPickedUp
+pickRequestRefused CallHandedOver c = PickError c CallAlreadyPickedUp
 pickRequestRefused StateUnfit c = NoMessage
 pickRequestRefused NotOutstanding c = NoMessage
 pickRequestRefused TimerNotRunning c = NoMessage

@@ -23,7 +23,7 @@ use Rattle.events.specs.declared.rule.Signal.the-variants.{LocalPickup, 
 use Rattle.events.specs.declared.message.Message.{Message}
 use Rattle.events.specs.declared.message.Message.the-variants.{NoMessage, ParkResult, Connect, Facility, PickResult, PickError, ReleaseComplete}
 use Rattle.events.specs.declared.message.ErrorValue.the-variants.{Undefined}
-use Rattle.events.specs.declared.refusal.Refusal.the-variants.{UnknownKind, CallNotHeld, PickupPending, StateUnfit, NotOutstanding, TimerNotRunning}
+use Rattle.events.specs.declared.refusal.Refusal.the-variants.{UnknownKind, CallNotHeld, PickupHere, PickupElsewhere, CallHandedOver, StateUnfit, NotOutstanding, TimerNotRunning}
 use Rattle.events.specs.declared.turn.Stage.{Stage}
 use Rattle.events.specs.declared.turn.Stage.the-variants.{Waits, AskedHere, AskedFrom, Taken}
 use Rattle.events.specs.declared.turn.Outcome.{Outcome}
@@ -70,12 +70,12 @@ greeting Line = NoMessage
 abbrev pub up : Invoke → Invoke
 up n = record { 0 = (n .0 + 1) % 2 ^ 16 }
 
--- kinds 3 and 4: a waiting call goes to the stage given; refusal 7 in states 3, 4 and 5
+-- kinds 3 and 4: a waiting call goes to the stage given. Q-3: "Keep 7 for state 3, and use 11 for state 4 and 12 for state 5."
 abbrev pub pickedUp : Stage → Stage → Invoke → Message → Outcome
 pickedUp Waits to n m = Becomes to n m
-pickedUp AskedHere to n m = Refused PickupPending
-pickedUp (AskedFrom c) to n m = Refused PickupPending
-pickedUp Taken to n m = Refused PickupPending
+pickedUp AskedHere to n m = Refused PickupHere
+pickedUp (AskedFrom c) to n m = Refused PickupElsewhere
+pickedUp Taken to n m = Refused CallHandedOver
 
 -- "The outstanding number is the count."
 abbrev pub isOutstanding : Record → Invoke → Bool

@@ -112,9 +112,9 @@ fn pick_up(s: Stage, to: Stage, n: Invoke, m: Message) -> Outcome
 {
     match s {
         Stage::Waits => Outcome::Becomes(to, n, m),
-        Stage::AskedHere => Outcome::Refused(Refusal::PickupPending),
-        Stage::AskedFrom(_) => Outcome::Refused(Refusal::PickupPending),
-        Stage::Taken => Outcome::Refused(Refusal::PickupPending),
+        Stage::AskedHere => Outcome::Refused(Refusal::PickupHere),
+        Stage::AskedFrom(_) => Outcome::Refused(Refusal::PickupElsewhere),
+        Stage::Taken => Outcome::Refused(Refusal::CallHandedOver),
     }
 }
 

@@ -32,7 +32,7 @@ use Rattle.step.specs.declared.aim.Aim.the-variants.{To, Nowhere}
 use Rattle.step.specs.Aim.{aim, nextWaiting}
 use Rattle.step.specs.Step.{carriedOut, stepOf}
 use Rattle.step.proofs.Aims.{aim-inside}
-use Rattle.step.proofs.Promises.{refused-not-0}
+use Rattle.events.proofs.Refusals.{refused-not-0}
 use Rattle.lines.specs.declared.ReadEvent.{ReadEvent}
 use Rattle.lines.specs.EventLine.{readLine}
 use Rattle.lent.specs.LineStep.{stepRead}

@@ -8,7 +8,9 @@ pub mod Hexadecimal
 pub mod Lengths
 pub mod Written
 pub mod Rests
+pub mod Faults
 pub mod Round
 pub mod Ranged
+pub mod BadField
 pub mod Offered
 pub mod Unique

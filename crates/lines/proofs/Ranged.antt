@@ -11,12 +11,16 @@ use borrow.Author.Tests.{eqb-true}
 use Rattle.lines.specs.declared.numbers.Number.{Number}
 use Rattle.lines.specs.declared.numbers.Number.the-variants.{Is, Bad}
 use Rattle.lines.specs.declared.calls.ReadCall.{ReadCall}
+use Rattle.lines.specs.declared.Fault.{Fault}
+use Rattle.lines.specs.declared.Fault.the-variants.{TooLong, NotSeven, BadField}
+use Rattle.lines.specs.declared.Reading.{Reading}
 use Rattle.lines.specs.declared.ReadEvent.{ReadEvent}
-use Rattle.lines.specs.Fields.{before, tabs}
+use Rattle.lines.specs.Fields.{field, tabs}
 use Rattle.lines.specs.Numbers.{numberOf}
 use Rattle.lines.specs.Calls.{nibbleOf, badCall, callFrom, callOf}
-use Rattle.lines.specs.EventLine.{unread, withNumber, withCall, from2, from3, from4, from5, from6, from7, fieldsOf, readLine}
+use Rattle.lines.specs.EventLine.{callIn, fails, withNumber, withCall, fieldsOf, reading, faultNumber, readLine}
 use Rattle.lines.proofs.NumberLaws.{number-most}
+use Rattle.lines.proofs.Faults.{fault-most}
 
 -- two digits for each octet that is missing
 from-long : (acc s : List ℕ) (n : ℕ) → length s ≡ n * 2 → length acc + n ≡ 16 → length (callFrom acc s .call) ≡ 16
@@ -44,42 +48,46 @@ pub record Ranged (r : ReadEvent) : Type 0 where
   pub call : length (r .event .call) ≡ 16
   pub connection : r .event .connection .0 ≤ 65535
 
-refused : (n : ℕ) → n ≤ 24 → Ranged (unread n)
-refused n h = record { number = h; call = refl; connection = lit≤ tt }
+-- of a reading on its way
+abbrev Within : Reading → Type 0
+Within r = Ranged (record { number = faultNumber (r .fault); event = r .event })
 
-number-on : (s : List ℕ) (most : ℕ) (k : ℕ → ReadEvent) → ((v : ℕ) → v ≤ most → Ranged (k v)) → Ranged (withNumber (numberOf s most) k)
+failed : (f : Fault) → Within (fails f)
+failed f = record { number = fault-most f; call = refl; connection = lit≤ tt }
+
+number-on : (i : ℕ) (s : List ℕ) (most : ℕ) (k : ℕ → Reading) → ((v : ℕ) → v ≤ most → Within (k v)) → Within (withNumber i (numberOf s most) k)
 unfolding withNumber
-number-on s most k h = by (numberOf s most) refl
+number-on i s most k h = by (numberOf s most) refl
   where
-    by : (n : Number) → numberOf s most ≡ n → Ranged (withNumber n k)
+    by : (n : Number) → numberOf s most ≡ n → Within (withNumber i n k)
     by (Is v) q = h v (number-most s most v q)
-    by Bad q = refused 23 (lit≤ tt)
+    by Bad q = failed (BadField i)
 
-call-on : (c : ReadCall) (k : List ℕ → ReadEvent) → Ranged (k (c .call)) → Ranged (withCall c k)
+call-on : (i : ℕ) (c : ReadCall) (k : List ℕ → Reading) → Within (k (c .call)) → Within (withCall i c k)
 unfolding withCall
-call-on c k h = by (c .good)
+call-on i c k h = by (c .good)
   where
-    by : (b : Bool) → Ranged (cond b (k (c .call)) (unread 24))
+    by : (b : Bool) → Within (cond b (k (c .call)) (fails (BadField i)))
     by true = h
-    by false = refused 24 (lit≤ tt)
+    by false = failed (BadField i)
 
-fields-ranged : (s : List ℕ) → Ranged (fieldsOf s)
+fields-ranged : (s : List ℕ) → Within (fieldsOf s)
 unfolding fieldsOf
 fields-ranged s =
-    number-on (before s) 255 _ λ kind _.
-    call-on (callOf (before (from2 s))) _
-    (number-on (before (from3 s)) 65535 _ λ place _.
-    number-on (before (from4 s)) 255 _ λ choice _.
-    number-on (before (from5 s)) 65535 _ λ connection within.
-    number-on (before (from6 s)) 65535 _ λ invoke _.
-    number-on (before (from7 s)) 255 _ λ timer _.
-    record { number = lit≤ tt; call = call-long (before (from2 s)); connection = within })
+    number-on 1 (field 1 s) 255 _ λ kind _.
+    call-on 2 (callIn 2 s) _
+    (number-on 3 (field 3 s) 65535 _ λ place _.
+    number-on 4 (field 4 s) 255 _ λ choice _.
+    number-on 5 (field 5 s) 65535 _ λ connection within.
+    number-on 6 (field 6 s) 65535 _ λ invoke _.
+    number-on 7 (field 7 s) 255 _ λ timer _.
+    record { number = lit≤ tt; call = call-long (field 2 s); connection = within })
 
 pub read-ranged : (line : List ℕ) → Ranged (readLine line)
-unfolding readLine
+unfolding readLine reading
 read-ranged line = by (ltb 62 (length line)) (eqb (tabs line) 6)
   where
-    by : (a b : Bool) → Ranged (cond a (unread 21) (cond b (fieldsOf line) (unread 22)))
-    by true b = refused 21 (lit≤ tt)
+    by : (a b : Bool) → Within (cond a (fails TooLong) (cond b (fieldsOf line) (fails NotSeven)))
+    by true b = failed TooLong
     by false true = fields-ranged line
-    by false false = refused 22 (lit≤ tt)
+    by false false = failed NotSeven

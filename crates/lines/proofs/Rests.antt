@@ -11,58 +11,59 @@ use Rattle.events.specs.declared.Event.{Event}
 use Rattle.lines.specs.declared.numbers.Number.{Number}
 use Rattle.lines.specs.declared.numbers.Number.the-variants.{Is, Bad}
 use Rattle.lines.specs.declared.calls.ReadCall.{ReadCall}
-use Rattle.lines.specs.declared.ReadEvent.{ReadEvent}
+use Rattle.lines.specs.declared.Reading.{Reading}
+use Rattle.lines.specs.declared.Fault.the-variants.{TooLong, NotSeven, BadField}
 use Rattle.lines.specs.Fields.{before, after, tabs}
 use Rattle.lines.specs.Numbers.{numberOf}
 use Rattle.lines.specs.Calls.{callOf}
-use Rattle.lines.specs.EventLine.{eventOf, unread, read, withNumber, withCall, fieldsOf, readLine}
+use Rattle.lines.specs.EventLine.{eventOf, says, fails, withNumber, withCall, fieldsOf, reading}
 
 -- the rest s of a line from its seventh field on, from its sixth on, and so on, with the event of the values that it has
-abbrev pub rest7 : List ℕ → (ℕ → Event) → ReadEvent
-rest7 s e = withNumber (numberOf (before s) 255) λ timer. read (e timer)
+abbrev pub rest7 : List ℕ → (ℕ → Event) → Reading
+rest7 s e = withNumber 7 (numberOf (before s) 255) λ timer. says (e timer)
 
-abbrev pub rest6 : List ℕ → (ℕ → ℕ → Event) → ReadEvent
-rest6 s e = withNumber (numberOf (before s) 65535) λ invoke. rest7 (after s) (e invoke)
+abbrev pub rest6 : List ℕ → (ℕ → ℕ → Event) → Reading
+rest6 s e = withNumber 6 (numberOf (before s) 65535) λ invoke. rest7 (after s) (e invoke)
 
-abbrev pub rest5 : List ℕ → (ℕ → ℕ → ℕ → Event) → ReadEvent
-rest5 s e = withNumber (numberOf (before s) 65535) λ connection. rest6 (after s) (e connection)
+abbrev pub rest5 : List ℕ → (ℕ → ℕ → ℕ → Event) → Reading
+rest5 s e = withNumber 5 (numberOf (before s) 65535) λ connection. rest6 (after s) (e connection)
 
-abbrev pub rest4 : List ℕ → (ℕ → ℕ → ℕ → ℕ → Event) → ReadEvent
-rest4 s e = withNumber (numberOf (before s) 255) λ choice. rest5 (after s) (e choice)
+abbrev pub rest4 : List ℕ → (ℕ → ℕ → ℕ → ℕ → Event) → Reading
+rest4 s e = withNumber 4 (numberOf (before s) 255) λ choice. rest5 (after s) (e choice)
 
-abbrev pub rest3 : List ℕ → (ℕ → ℕ → ℕ → ℕ → ℕ → Event) → ReadEvent
-rest3 s e = withNumber (numberOf (before s) 65535) λ place. rest4 (after s) (e place)
+abbrev pub rest3 : List ℕ → (ℕ → ℕ → ℕ → ℕ → ℕ → Event) → Reading
+rest3 s e = withNumber 3 (numberOf (before s) 65535) λ place. rest4 (after s) (e place)
 
-abbrev pub rest2 : List ℕ → (List ℕ → ℕ → ℕ → ℕ → ℕ → ℕ → Event) → ReadEvent
-rest2 s e = withCall (callOf (before s)) λ call. rest3 (after s) (e call)
+abbrev pub rest2 : List ℕ → (List ℕ → ℕ → ℕ → ℕ → ℕ → ℕ → Event) → Reading
+rest2 s e = withCall 2 (callOf (before s)) λ call. rest3 (after s) (e call)
 
-abbrev pub rest1 : List ℕ → ReadEvent
-rest1 s = withNumber (numberOf (before s) 255) λ kind. rest2 (after s) (eventOf kind)
+abbrev pub rest1 : List ℕ → Reading
+rest1 s = withNumber 1 (numberOf (before s) 255) λ kind. rest2 (after s) (eventOf kind)
 
-pub line-long : (s : List ℕ) → 62 < length s → readLine s ≡ unread 21
-unfolding readLine
+pub line-long : (s : List ℕ) → 62 < length s → reading s ≡ fails TooLong
+unfolding reading
 line-long s h = rw (lt-ltb 62 (length s) h)
 
-pub line-parts : (s : List ℕ) → length s ≤ 62 → (tabs s ≡ 6 → ⊥) → readLine s ≡ unread 22
-unfolding readLine
+pub line-parts : (s : List ℕ) → length s ≤ 62 → (tabs s ≡ 6 → ⊥) → reading s ≡ fails NotSeven
+unfolding reading
 line-parts s h k = rw (le-ltb 62 (length s) h, ne-eqb (tabs s) 6 k)
 
-pub line-rest : (s : List ℕ) → length s ≤ 62 → tabs s ≡ 6 → readLine s ≡ rest1 s
-unfolding readLine fieldsOf
+pub line-rest : (s : List ℕ) → length s ≤ 62 → tabs s ≡ 6 → reading s ≡ rest1 s
+unfolding reading fieldsOf
 line-rest s h k = rw (le-ltb 62 (length s) h, eq-eqb (tabs s) 6 k)
 
-pub number-is : (n : Number) (k : ℕ → ReadEvent) (v : ℕ) → n ≡ Is v → withNumber n k ≡ k v
+pub number-is : (i : ℕ) (n : Number) (k : ℕ → Reading) (v : ℕ) → n ≡ Is v → withNumber i n k ≡ k v
 unfolding withNumber
-number-is n k v e = rw e
+number-is i n k v e = rw e
 
-pub number-bad : (n : Number) (k : ℕ → ReadEvent) → n ≡ Bad → withNumber n k ≡ unread 23
+pub number-bad : (i : ℕ) (n : Number) (k : ℕ → Reading) → n ≡ Bad → withNumber i n k ≡ fails (BadField i)
 unfolding withNumber
-number-bad n k e = rw e
+number-bad i n k e = rw e
 
-pub call-is : (c : ReadCall) (k : List ℕ → ReadEvent) (r : ReadCall) → r ≡ c → r .good ≡ true → withCall c k ≡ k (r .call)
+pub call-is : (i : ℕ) (c : ReadCall) (k : List ℕ → Reading) (r : ReadCall) → r ≡ c → r .good ≡ true → withCall i c k ≡ k (r .call)
 unfolding withCall
-call-is c k r e g = rw (← e, g)
+call-is i c k r e g = rw (← e, g)
 
-pub call-bad : (c : ReadCall) (k : List ℕ → ReadEvent) (r : ReadCall) → r ≡ c → r .good ≡ false → withCall c k ≡ unread 24
+pub call-bad : (i : ℕ) (c : ReadCall) (k : List ℕ → Reading) (r : ReadCall) → r ≡ c → r .good ≡ false → withCall i c k ≡ fails (BadField i)
 unfolding withCall
-call-bad c k r e g = rw (← e, g)
+call-bad i c k r e g = rw (← e, g)

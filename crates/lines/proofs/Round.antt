@@ -9,16 +9,20 @@ use native.Mathlib.Omega.{arith}
 use lib.Dec.{ltb, eqb}
 use lib.ListN.{length}
 use borrow.Author.Tests.{le-ltb, eq-eqb, eqb-true}
-use Rattle.lines.specs.Fields.{before, after, tabs}
+use Rattle.lines.specs.Fields.{before, after, field, tabs}
 use Rattle.lines.specs.Numbers.{numberOf, decimal}
 use Rattle.lines.specs.Calls.{callOf, hexOf}
-use Rattle.lines.specs.EventLine.{eventOf, unread, read, from2, from3, from4, from5, from6, from7, withNumber, withCall, fieldsOf, readLine, joined, eventLine}
+use Rattle.lines.specs.EventLine.{eventOf, says, fails, withNumber, withCall, fieldsOf, reading, faultNumber, readLine, read, joined, eventLine}
 use Rattle.lines.specs.declared.numbers.Number.{Number}
 use Rattle.lines.specs.declared.numbers.Number.the-variants.{Is, Bad}
 use Rattle.lines.specs.declared.calls.ReadCall.{ReadCall}
 use Rattle.events.specs.declared.Event.{Event}
+use Rattle.lines.specs.declared.Fault.{Fault}
+use Rattle.lines.specs.declared.Fault.the-variants.{TooLong, NotSeven, BadField}
+use Rattle.lines.specs.declared.Reading.{Reading}
 use Rattle.lines.specs.declared.ReadEvent.{ReadEvent}
 use Rattle.lines.proofs.Passed.{cond-past, cond-into}
+use Rattle.lines.proofs.Faults.{bad-above, no-fault}
 use Rattle.lines.proofs.Joined.{join-before, join-after, join-tabs, last-before, cut-line, cut-tabs}
 use Rattle.lines.proofs.Decimal.{number-written, number-read, decimal-tabs}
 use Rattle.lines.proofs.Hexadecimal.{call-written, call-read, hex-tabs}
@@ -65,7 +69,7 @@ module _ (f0 f1 f2 f3 f4 f5 f6 : List ℕ) (h0 : tabs f0 ≡ 0) (h1 : tabs f1 �
       → numberOf f0 255 ≡ Is kind → callOf f1 ≡ record { good = true; call = call } → numberOf f2 65535 ≡ Is place
       → numberOf f3 255 ≡ Is choice → numberOf f4 65535 ≡ Is connection → numberOf f5 65535 ≡ Is invoke → numberOf f6 255 ≡ Is timer
       → readLine (seven f0 f1 f2 f3 f4 f5 f6) ≡ read (eventOf kind call place choice connection invoke timer)
-  unfolding readLine fieldsOf withNumber withCall
+  unfolding readLine reading fieldsOf withNumber withCall
   read-seven kind call place choice connection invoke timer l n0 n1 n2 n3 n4 n5 n6 =
       rw (
         le-ltb 62 (length (seven f0 f1 f2 f3 f4 f5 f6)) l,
@@ -106,61 +110,66 @@ read-written e h =
     (number-written (e .timer) 255 (h .timer) (omega arith))
 
 -- what a line that was read says of its parts
-not-refused : (n : ℕ) (e : Event) → 0 < n → unread n ≡ read e → ⊥
-not-refused n e p q = omega (arith, ap (λ (r : ReadEvent). r .number) q)
+not-failed : (f : Fault) (e : Event) → 0 < faultNumber f → fails f ≡ says e → ⊥
+not-failed f e p q = omega (arith, ap (λ (r : Reading). faultNumber (r .fault)) q)
 
-record Good (n : Number) (k : ℕ → ReadEvent) (e : Event) : Type 0 where
+record Good (n : Number) (k : ℕ → Reading) (e : Event) : Type 0 where
   value : ℕ
   is : n ≡ Is value
-  on : k value ≡ read e
+  on : k value ≡ says e
 
-number-good : (n : Number) (k : ℕ → ReadEvent) (e : Event) → withNumber n k ≡ read e → Good n k e
+number-good : (i : ℕ) (n : Number) (k : ℕ → Reading) (e : Event) → withNumber i n k ≡ says e → Good n k e
 unfolding withNumber
-number-good (Is v) k e q = record { value = v; is = refl; on = q }
-number-good Bad k e q = absurd (not-refused 23 e (omega arith) q)
+number-good i (Is v) k e q = record { value = v; is = refl; on = q }
+number-good i Bad k e q = absurd (not-failed (BadField i) e (bad-above i) q)
 
-record GoodCall (c : ReadCall) (k : List ℕ → ReadEvent) (e : Event) : Type 0 where
+record GoodCall (c : ReadCall) (k : List ℕ → Reading) (e : Event) : Type 0 where
   is : c ≡ record { good = true; call = c .call }
-  on : k (c .call) ≡ read e
+  on : k (c .call) ≡ says e
 
-call-good : (c : ReadCall) (k : List ℕ → ReadEvent) (e : Event) → withCall c k ≡ read e → GoodCall c k e
+call-good : (i : ℕ) (c : ReadCall) (k : List ℕ → Reading) (e : Event) → withCall i c k ≡ says e → GoodCall c k e
 unfolding withCall
-call-good c k e q = go (c .good) refl q
+call-good i c k e q = go (c .good) refl q
   where
-    go : (b : Bool) → c .good ≡ b → cond b (k (c .call)) (unread 24) ≡ read e → GoodCall c k e
+    go : (b : Bool) → c .good ≡ b → cond b (k (c .call)) (fails (BadField i)) ≡ says e → GoodCall c k e
     go true g q = record { is = λ i. record { good = g i; call = c .call }; on = q }
-    go false g q = absurd (not-refused 24 e (omega arith) q)
+    go false g q = absurd (not-failed (BadField i) e (bad-above i) q)
 
 -- a line of seven fields is its fields, joined
-cut-seven : (s : List ℕ) → tabs s ≡ 6
-    → seven (before s) (before (from2 s)) (before (from3 s)) (before (from4 s)) (before (from5 s)) (before (from6 s)) (before (from7 s)) ≡ s
+cut-seven : (s : List ℕ) → tabs s ≡ 6 → seven (field 1 s) (field 2 s) (field 3 s) (field 4 s) (field 5 s) (field 6 s) (field 7 s) ≡ s
 cut-seven s h =
     let s1 = after s in let s2 = after s1 in let s3 = after s2 in let s4 = after s3 in let s5 = after s4 in let s6 = after s5 in
     let h1 = cut-tabs s 5 h in let h2 = cut-tabs s1 4 h1 in let h3 = cut-tabs s2 3 h2 in
     let h4 = cut-tabs s3 2 h3 in let h5 = cut-tabs s4 1 h4 in let h6 = cut-tabs s5 0 h5 in
     rw (last-before s6 h6, cut-line s5 0 h5, cut-line s4 1 h4, cut-line s3 2 h3, cut-line s2 3 h2, cut-line s1 4 h1, cut-line s 5 h)
 
+says-event : (s : List ℕ) (e : Event) → readLine s ≡ read e → reading s ≡ says e
+unfolding readLine
+says-event s e q =
+    let f = no-fault (reading s .fault) (ap (λ (r : ReadEvent). r .number) q) in
+    λ i. record { fault = f i; event = q i .event }
+
 -- a line that was read is written back octet for octet
 pub written-read : (s : List ℕ) (e : Event) → readLine s ≡ read e → eventLine e ≡ s
-unfolding readLine fieldsOf eventLine
+unfolding reading fieldsOf eventLine
 written-read s e q =
-    let a = cond-past (ltb 62 (length s)) (unread 21) _ (read e) (not-refused 21 e (omega arith)) q in
-    let b = cond-into (eqb (tabs s) 6) _ (unread 22) (read e) (not-refused 22 e (omega arith)) (a .1) in
-    let n0 = number-good _ _ e (b .1) in
-    let n1 = call-good _ _ e (n0 .on) in
-    let n2 = number-good _ _ e (n1 .on) in
-    let n3 = number-good _ _ e (n2 .on) in
-    let n4 = number-good _ _ e (n3 .on) in
-    let n5 = number-good _ _ e (n4 .on) in
-    let n6 = number-good _ _ e (n5 .on) in
-    ap (λ (r : ReadEvent). eventLine (r .event)) (sym (n6 .on))
+    let a = cond-past (ltb 62 (length s)) (fails TooLong) _ (says e) (not-failed TooLong e (omega arith)) (says-event s e q) in
+    let b = cond-into (eqb (tabs s) 6) _ (fails NotSeven) (says e) (not-failed NotSeven e (omega arith)) (a .1) in
+    let n1 = number-good 1 _ _ e (b .1) in
+    let n2 = call-good 2 _ _ e (n1 .on) in
+    let n3 = number-good 3 _ _ e (n2 .on) in
+    let n4 = number-good 4 _ _ e (n3 .on) in
+    let n5 = number-good 5 _ _ e (n4 .on) in
+    let n6 = number-good 6 _ _ e (n5 .on) in
+    let n7 = number-good 7 _ _ e (n6 .on) in
+    ap (λ (r : Reading). eventLine (r .event)) (sym (n7 .on))
     ∙ rw (
-      number-read (before s) 255 _ (omega arith) (n0 .is),
-      call-read (before (from2 s)) _ (n1 .is),
-      number-read (before (from3 s)) 65535 _ (omega arith) (n2 .is),
-      number-read (before (from4 s)) 255 _ (omega arith) (n3 .is),
-      number-read (before (from5 s)) 65535 _ (omega arith) (n4 .is),
-      number-read (before (from6 s)) 65535 _ (omega arith) (n5 .is),
-      number-read (before (from7 s)) 255 _ (omega arith) (n6 .is),
+      number-read (field 1 s) 255 _ (omega arith) (n1 .is),
+      call-read (field 2 s) _ (n2 .is),
+      number-read (field 3 s) 65535 _ (omega arith) (n3 .is),
+      number-read (field 4 s) 255 _ (omega arith) (n4 .is),
+      number-read (field 5 s) 65535 _ (omega arith) (n5 .is),
+      number-read (field 6 s) 65535 _ (omega arith) (n6 .is),
+      number-read (field 7 s) 255 _ (omega arith) (n7 .is),
     )
     (cut-seven s (eqb-true (tabs s) 6 (b .0)))

@@ -9,6 +9,7 @@ use Rattle.lines.proofs.numbers.read_number.Reads as read-number
 use Rattle.lines.proofs.numbers.digits.Reads as digits
 use Rattle.lines.proofs.calls.read_call.Reads as read-call
 use Rattle.lines.proofs.read_event.Reads as read-event
+use Rattle.lines.proofs.bad_field.Reads as bad-field
 use Rattle.lines.proofs.event_length.Reads as event-length
 use Rattle.lines.proofs.write_event.Reads as write-event
 use Rattle.lines.proofs.answer_length.Reads as answer-length
@@ -28,6 +29,9 @@ read-call-decided κ a x y d e p q = p ∙ sym q
 
 pub read-event-decided : Decides read-event.Post
 read-event-decided κ a x y d e p q = p ∙ sym q
+
+pub bad-field-decided : Decides bad-field.Post
+bad-field-decided κ a x y d e p q = p ∙ sym q
 
 pub event-length-decided : Decides event-length.Post
 event-length-decided κ a x y d e p q = p ∙ sym q

@@ -1,7 +1,7 @@
--- The event line (document 01, "Event line: the seven fields above in that order, parted by tabs."): what reading a line gives, with
--- refusals 21 to 24, and how an event is written.
+-- The event line (document 01, "Event line: the seven fields above in that order, parted by tabs."): what a line says, the two things that
+-- are taken from it, its event with refusals 21 to 24 and its first bad field, and how an event is written.
 -- Assumes nothing.
-use mathlib.Core.Bool.{cond}
+use mathlib.Core.Bool.{cond, _||_}
 use mathlib.Core.List.{List, _∷_, _++_}
 use Prim.Native.Nat.{ℕ}
 use lib.Dec.{ltb, eqb}
@@ -11,10 +11,28 @@ use Rattle.events.specs.declared.Event.{Event}
 use Rattle.lines.specs.declared.numbers.Number.{Number}
 use Rattle.lines.specs.declared.numbers.Number.the-variants.{Is, Bad}
 use Rattle.lines.specs.declared.calls.ReadCall.{ReadCall}
+use Rattle.lines.specs.declared.Reading.{Reading}
+use Rattle.lines.specs.declared.Fault.{Fault}
+use Rattle.lines.specs.declared.Fault.the-variants.{NoFault, TooLong, NotSeven, BadField}
 use Rattle.lines.specs.declared.ReadEvent.{ReadEvent}
-use Rattle.lines.specs.Fields.{before, after, tabs}
+use Rattle.lines.specs.Fields.{field, tabs}
 use Rattle.lines.specs.Numbers.{numberOf, decimal}
 use Rattle.lines.specs.Calls.{callOf, hexOf}
+
+-- ---- the fields
+
+-- "Ranges: kind, choice, timer 0 to 255; place, connection, invoke 0 to 65,535.": the largest value of field i
+abbrev pub most : ℕ → ℕ
+most i = cond (eqb i 1 || eqb i 4 || eqb i 7) 255 65535
+
+-- what field i says, as a number and as a call
+abbrev pub numberIn : ℕ → List ℕ → Number
+numberIn i s = numberOf (field i s) (most i)
+
+abbrev pub callIn : ℕ → List ℕ → ReadCall
+callIn i s = callOf (field i s)
+
+-- ---- what a line says
 
 -- an event of its seven fields
 abbrev pub eventOf : ℕ → List ℕ → ℕ → ℕ → ℕ → ℕ → ℕ → Event
@@ -28,56 +46,65 @@ eventOf kind call place choice connection invoke timer = record {
   timer = timer;
 }
 
--- "a refused line [gives] the event of all zeros"
-abbrev pub unread : ℕ → ReadEvent
-unread number = record { number = number; event = eventOf 0 noCall 0 0 0 0 0 }
+abbrev pub says : Event → Reading
+says e = record { fault = NoFault; event = e }
 
+-- "a refused line [gives] the event of all zeros"
+abbrev pub fails : Fault → Reading
+fails f = record { fault = f; event = eventOf 0 noCall 0 0 0 0 0 }
+
+-- a number in field i: go on with its value, or it is the first bad field
+unfoldable pub withNumber : ℕ → Number → (ℕ → Reading) → Reading
+withNumber i (Is v) k = k v
+withNumber i Bad k = fails (BadField i)
+
+-- the call in field i: go on with its octets, or it is the first bad field
+unfoldable pub withCall : ℕ → ReadCall → (List ℕ → Reading) → Reading
+withCall i c k = cond (c .good) (k (c .call)) (fails (BadField i))
+
+-- the seven fields in order; the walk ends at the first bad one
+unfoldable pub fieldsOf : List ℕ → Reading
+fieldsOf s =
+    withNumber 1 (numberIn 1 s) λ kind.
+    withCall 2 (callIn 2 s) λ call.
+    withNumber 3 (numberIn 3 s) λ place.
+    withNumber 4 (numberIn 4 s) λ choice.
+    withNumber 5 (numberIn 5 s) λ connection.
+    withNumber 6 (numberIn 6 s) λ invoke.
+    withNumber 7 (numberIn 7 s) λ timer.
+    says (eventOf kind call place choice connection invoke timer)
+
+-- "line longer than 62 octets"; "not exactly seven fields"; then the fields
+unfoldable pub reading : List ℕ → Reading
+reading s = cond (ltb 62 (length s)) (fails TooLong) (cond (eqb (tabs s) 6) (fieldsOf s) (fails NotSeven))
+
+-- ---- what is taken from it: the refusal with the event, and the first bad field
+
+-- 21 and 22; 23 "first bad field is a number", 24 "first bad field is the call"
+abbrev pub faultNumber : Fault → ℕ
+faultNumber NoFault = 0
+faultNumber TooLong = 21
+faultNumber NotSeven = 22
+faultNumber (BadField i) = cond (eqb i 2) 24 23
+
+unfoldable pub readLine : List ℕ → ReadEvent
+readLine s = record { number = faultNumber (reading s .fault); event = reading s .event }
+
+-- what reading gives for a line that says the event
 abbrev pub read : Event → ReadEvent
 read e = record { number = 0; event = e }
 
--- a number: go on with its value, or refuse by 23
-unfoldable pub withNumber : Number → (ℕ → ReadEvent) → ReadEvent
-withNumber (Is v) k = k v
-withNumber Bad k = unread 23
+-- document 02, Q-3: "its first bad field, 1 to 7, or 0 when no single field is to blame"
+abbrev pub faultField : Fault → ℕ
+faultField NoFault = 0
+faultField TooLong = 0
+faultField NotSeven = 0
+faultField (BadField i) = i
 
--- the call: go on with its octets, or refuse by 24
-unfoldable pub withCall : ReadCall → (List ℕ → ReadEvent) → ReadEvent
-withCall c k = cond (c .good) (k (c .call)) (unread 24)
+unfoldable pub badField : List ℕ → ℕ
+badField s = faultField (reading s .fault)
 
--- the fields from the second, third, .. seventh on
-abbrev pub from2 : List ℕ → List ℕ
-from2 s = after s
-
-abbrev pub from3 : List ℕ → List ℕ
-from3 s = after (from2 s)
-
-abbrev pub from4 : List ℕ → List ℕ
-from4 s = after (from3 s)
-
-abbrev pub from5 : List ℕ → List ℕ
-from5 s = after (from4 s)
-
-abbrev pub from6 : List ℕ → List ℕ
-from6 s = after (from5 s)
-
-abbrev pub from7 : List ℕ → List ℕ
-from7 s = after (from6 s)
-
--- the seven fields in order; the first bad one refuses. "Ranges: kind, choice, timer 0 to 255; place, connection, invoke 0 to 65,535."
-unfoldable pub fieldsOf : List ℕ → ReadEvent
-fieldsOf s =
-    withNumber (numberOf (before s) 255) λ kind.
-    withCall (callOf (before (from2 s))) λ call.
-    withNumber (numberOf (before (from3 s)) 65535) λ place.
-    withNumber (numberOf (before (from4 s)) 255) λ choice.
-    withNumber (numberOf (before (from5 s)) 65535) λ connection.
-    withNumber (numberOf (before (from6 s)) 65535) λ invoke.
-    withNumber (numberOf (before (from7 s)) 255) λ timer.
-    read (eventOf kind call place choice connection invoke timer)
-
--- 21 "line longer than 62 octets"; 22 "not exactly seven fields"; then the fields
-unfoldable pub readLine : List ℕ → ReadEvent
-readLine s = cond (ltb 62 (length s)) (unread 21) (cond (eqb (tabs s) 6) (fieldsOf s) (unread 22))
+-- ---- how an event is written
 
 -- a field, a tab, and what follows
 abbrev pub joined : List ℕ → List ℕ → List ℕ

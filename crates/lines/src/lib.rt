@@ -20,11 +20,51 @@ ghost use Prim.Native.Nat.{_+_, _≤_, _<_};
 ghost use lib.Dec.{ltb};
 ghost use lib.ListN.{length};
 ghost use lib.Seq.{sets};
-ghost use Rattle.lines.specs.EventLine.{unread, readLine, eventLine};
+ghost use Rattle.lines.specs.EventLine.{faultNumber, faultField, fails, reading, readLine, badField, eventLine};
 ghost use Rattle.lines.specs.AnswerLine.{sentLine, answerLine};
 
 // The octets that hold the line of every answer the table gives, its line feed included.
 pub const ANSWER_ROOM: usize = 77;
+
+// Why a line says no event, if it says none.
+enum Fault {
+    NoFault,
+    TooLong,
+    NotSeven,
+    BadField(u8),
+}
+
+impl Fault {
+    // The paper's refusal: of the seven fields the second is the call, and the others are numbers.
+    fn number(self) -> u8
+        ensures { λ r. ⌜ r ≡ faultNumber self ⌝ }
+    {
+        match self {
+            Fault::NoFault => 0,
+            Fault::TooLong => 21,
+            Fault::NotSeven => 22,
+            Fault::BadField(field) => if field == 2 { 24 } else { 23 },
+        }
+    }
+
+    // The field that is to blame, 1 to 7, or 0 where no single one is.
+    fn field(self) -> u8
+        ensures { λ r. ⌜ r ≡ faultField self ⌝ }
+    {
+        match self {
+            Fault::NoFault => 0,
+            Fault::TooLong => 0,
+            Fault::NotSeven => 0,
+            Fault::BadField(field) => field,
+        }
+    }
+}
+
+// What a line says: an event, or its fault and the event of all zeros.
+struct Reading {
+    fault: Fault,
+    event: Event,
+}
 
 // What reading a line gives: number 0 and the event, or the refusal and the event of all zeros.
 pub struct ReadEvent {
@@ -32,12 +72,12 @@ pub struct ReadEvent {
     pub event: Event,
 }
 
-// A refusal, with the event of all zeros.
-fn refuse(number: u8) -> ReadEvent
-    ensures { λ r. ⌜ r ≡ unread number ⌝ }
+// A fault, with the event of all zeros.
+fn fail(fault: Fault) -> Reading
+    ensures { λ r. ⌜ r ≡ fails fault ⌝ }
 {
-    ReadEvent {
-        number,
+    Reading {
+        fault,
         event: Event {
             kind: 0,
             call: [0; 16],
@@ -50,54 +90,54 @@ fn refuse(number: u8) -> ReadEvent
     }
 }
 
-// The event that a line says, or its refusal. The line comes without its line feed.
-pub fn read_event(line: &[u8]) -> ReadEvent
-    ensures { λ r. ⌜ r ≡ readLine (now (line .entry)) ⌝ }
+// The one walk through a line, from which both its event and its first bad field are taken.
+fn reading_of(line: &[u8]) -> Reading
+    ensures { λ r. ⌜ r ≡ reading (now (line .entry)) ⌝ }
 {
     if 62 < line.len() {
-        return refuse(21);
+        return fail(Fault::TooLong);
     }
     if fields::count_tabs(line) != 6 {
-        return refuse(22);
+        return fail(Fault::NotSeven);
     }
     let field1 = fields::first_field(line);
     let Number::Is(kind) = numbers::read_number(field1, 255) else {
-        return refuse(23);
+        return fail(Fault::BadField(1));
     };
     let from2 = fields::after_field(line, field1.len());
     let field2 = fields::first_field(from2);
     let c = calls::read_call(field2);
     if !c.good {
-        return refuse(24);
+        return fail(Fault::BadField(2));
     }
     let from3 = fields::after_field(from2, field2.len());
     let field3 = fields::first_field(from3);
     let Number::Is(place) = numbers::read_number(field3, 65535) else {
-        return refuse(23);
+        return fail(Fault::BadField(3));
     };
     let from4 = fields::after_field(from3, field3.len());
     let field4 = fields::first_field(from4);
     let Number::Is(choice) = numbers::read_number(field4, 255) else {
-        return refuse(23);
+        return fail(Fault::BadField(4));
     };
     let from5 = fields::after_field(from4, field4.len());
     let field5 = fields::first_field(from5);
     let Number::Is(connection) = numbers::read_number(field5, 65535) else {
-        return refuse(23);
+        return fail(Fault::BadField(5));
     };
     let from6 = fields::after_field(from5, field5.len());
     let field6 = fields::first_field(from6);
     let Number::Is(invoke) = numbers::read_number(field6, 65535) else {
-        return refuse(23);
+        return fail(Fault::BadField(6));
     };
     let from7 = fields::after_field(from6, field6.len());
     let field7 = fields::first_field(from7);
     let Number::Is(timer) = numbers::read_number(field7, 255) else {
-        return refuse(23);
+        return fail(Fault::BadField(7));
     };
     let call = c.call;
-    ReadEvent {
-        number: 0,
+    Reading {
+        fault: Fault::NoFault,
         event: Event {
             kind: kind as u8,
             call,
@@ -108,6 +148,28 @@ pub fn read_event(line: &[u8]) -> ReadEvent
             timer: timer as u8,
         },
     }
+}
+
+// The event that a line says, or its refusal. The line comes without its line feed.
+pub fn read_event(line: &[u8]) -> ReadEvent
+    ensures { λ r. ⌜ r ≡ readLine (now (line .entry)) ⌝ }
+{
+    let r = reading_of(line);
+    let fault = r.fault;
+    let event = r.event;
+    ReadEvent {
+        number: fault.number(),
+        event,
+    }
+}
+
+// The first bad field of a line, 1 to 7, or 0 where no single field is to blame: the line reads, or 21 or 22 refuses it.
+pub fn bad_field(line: &[u8]) -> u8
+    ensures { λ r. ⌜ r ≡ badField (now (line .entry)) ⌝ }
+{
+    let r = reading_of(line);
+    let fault = r.fault;
+    fault.field()
 }
 
 // Writes the line of an event where there is room for it.

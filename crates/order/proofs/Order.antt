@@ -3,7 +3,6 @@
 -- Assumes nothing.
 use mathlib.Core.Path.{_≡_, refl, sym, _∙_, subst}
 use mathlib.Core.Bool.{Bool, true, false, cond, not, _&&_, or-false}
-use mathlib.Core.List.{List}
 use mathlib.Core.Logic.{_⊎_, inl, inr, ⊎-elim}
 use Prim.Native.Nat.{ℕ, zero, suc, _<_, _≤_}
 use native.Mathlib.Nat.{eq-or-lt-of-le}
@@ -32,44 +31,37 @@ use Rattle.events.specs.declared.Event.{Event}
 use Rattle.events.specs.declared.rule.Rule.the-variants.{Start, On}
 use Rattle.events.specs.declared.rule.Signal.{Signal}
 use Rattle.events.specs.declared.rule.Signal.the-variants.{LocalPickup, PickRequest, PickupResult, PickupError, ErrorInRelease, Release, Answered, Expiry}
-use Rattle.events.specs.declared.message.Message.{Message}
 use Rattle.events.specs.declared.message.Message.the-variants.{Connect, Facility}
 use Rattle.events.specs.declared.refusal.Refusal.the-variants.{ChoiceOrTimer, SideFull, CallNotHeld, NothingWaits}
 use Rattle.events.specs.declared.turn.Stage.{Stage}
 use Rattle.events.specs.declared.turn.Stage.the-variants.{AskedHere, AskedFrom}
-use Rattle.events.specs.declared.turn.Outcome.{Outcome}
-use Rattle.events.specs.declared.turn.Outcome.the-variants.{Refused, Freed, Becomes}
 use Rattle.step.specs.declared.aim.Aim.the-variants.{To, Nowhere}
-use Rattle.events.specs.Refusal.{refusalNumber}
-use Rattle.events.specs.Turn.{stageBy, stageOf, up, pickedUp, isOutstanding, resulted, failed, failedInRelease, answered, runs, expired, turnOn}
+use Rattle.events.specs.Taken.{outcomeNumber, pickupNumber}
+use Rattle.events.specs.Turn.{stageBy, stageOf, up, isOutstanding, resulted, failed, failedInRelease, answered, runs, expired, turnOn}
 use Rattle.events.specs.Sought.{isTimer}
 use Rattle.events.proofs.Released.{error-in-release}
+use Rattle.events.proofs.Refusals.{pickup-numbered}
 use Rattle.step.specs.Aim.{aimAt, indexOf, isProposed, chosen, unlessHeld, aimNew, aimNamed, aimPickup, nextWaiting}
-use Rattle.step.specs.Step.{settled, carriedOut, stepOf}
-use Rattle.order.specs.Order.{firstOf, isFound, recordFound, sideFound, isTaken, isAsked, rows, InOrder}
+use Rattle.step.specs.Step.{carriedOut, stepOf}
+use Rattle.order.specs.Order.{firstOf, isFound, recordFound, sideFound, isAsked, rows, InOrder}
 use Rattle.step.proofs.Aims.{proposed-side}
+use Rattle.step.proofs.Stepped.{settled-number}
 
 -- ---- the number of an outcome
 
-abbrev numberOf : Outcome → ℕ
-numberOf (Refused w) = refusalNumber w
-numberOf (Freed first second) = 0
-numberOf (Becomes g n m) = 0
+-- rows 7, 11 and 12 of a pickup by name
+abbrev takenNumber : State → ℕ
+takenNumber s = cond (sameState s Requested) 7 (cond (sameState s RemoteRequested) 11 (cond (sameState s HandedOver) 12 0))
 
-settled-number : (t : Table) (e : Event) (i : ℕ) (call : List ℕ) (u : Outcome) → settled t e i call u .answer .number ≡ numberOf u
-settled-number t e i call (Refused w) = refl
-settled-number t e i call (Freed first second) = refl
-settled-number t e i call (Becomes g n m) = refl
+taken-rows : (s : State) → pickupNumber s ≡ takenNumber s
+taken-rows Free = refl
+taken-rows ParkWaiting = refl
+taken-rows LineWaiting = refl
+taken-rows Requested = refl
+taken-rows RemoteRequested = refl
+taken-rows HandedOver = refl
 
-pickup-number : (s : State) (c : Connection) (to : Stage) (n : Invoke) (m : Message) → numberOf (pickedUp (stageBy s c) to n m) ≡ cond (isTaken s) 7 0
-pickup-number Free c to n m = refl
-pickup-number ParkWaiting c to n m = refl
-pickup-number LineWaiting c to n m = refl
-pickup-number Requested c to n m = refl
-pickup-number RemoteRequested c to n m = refl
-pickup-number HandedOver c to n m = refl
-
-result-number : (s : State) (c : Connection) (b : Bool) (n : Invoke) → numberOf (resulted (stageBy s c) b n) ≡ cond (not (isAsked s)) 8 (cond (not b) 9 0)
+result-number : (s : State) (c : Connection) (b : Bool) (n : Invoke) → outcomeNumber (resulted (stageBy s c) b n) ≡ cond (not (isAsked s)) 8 (cond (not b) 9 0)
 result-number Free c b n = refl
 result-number ParkWaiting c b n = refl
 result-number LineWaiting c b n = refl
@@ -79,7 +71,7 @@ result-number RemoteRequested c true n = refl
 result-number RemoteRequested c false n = refl
 result-number HandedOver c b n = refl
 
-error-number : (s : State) (c : Connection) (b : Bool) (n : Invoke) → numberOf (failed (stageBy s c) b n) ≡ cond (not (isAsked s)) 8 (cond (not b) 9 0)
+error-number : (s : State) (c : Connection) (b : Bool) (n : Invoke) → outcomeNumber (failed (stageBy s c) b n) ≡ cond (not (isAsked s)) 8 (cond (not b) 9 0)
 error-number Free c b n = refl
 error-number ParkWaiting c b n = refl
 error-number LineWaiting c b n = refl
@@ -89,10 +81,10 @@ error-number RemoteRequested c true n = refl
 error-number RemoteRequested c false n = refl
 error-number HandedOver c b n = refl
 
-in-release-number : (g : Stage) (b : Bool) → numberOf (failedInRelease g b) ≡ 0
+in-release-number : (g : Stage) (b : Bool) → outcomeNumber (failedInRelease g b) ≡ 0
 in-release-number g b = rw (error-in-release g b)
 
-answered-number : (s : State) → numberOf (answered s) ≡ cond (not (sameState s LineWaiting)) 8 0
+answered-number : (s : State) → outcomeNumber (answered s) ≡ cond (not (sameState s LineWaiting)) 8 0
 answered-number Free = refl
 answered-number ParkWaiting = refl
 answered-number LineWaiting = refl
@@ -114,10 +106,10 @@ nine-asked Position HandedOver h = never h
 nine-asked Line HandedOver h = never h
 
 expiry-number : (a : Side) (s : State) (c : Connection) (timer : ℕ) (n : Invoke)
-    → numberOf (expired (runs (timerSet a s) timer) timer (stageBy s c) n) ≡ cond (not (runs (timerSet a s) timer)) 10 0
+    → outcomeNumber (expired (runs (timerSet a s) timer) timer (stageBy s c) n) ≡ cond (not (runs (timerSet a s) timer)) 10 0
 expiry-number a s c timer n = by (runs (timerSet a s) timer) (eqb timer 9) refl refl
   where
-    by : (b d : Bool) → runs (timerSet a s) timer ≡ b → eqb timer 9 ≡ d → numberOf (expired (runs (timerSet a s) timer) timer (stageBy s c) n) ≡ cond (not (runs (timerSet a s) timer)) 10 0
+    by : (b d : Bool) → runs (timerSet a s) timer ≡ b → eqb timer 9 ≡ d → outcomeNumber (expired (runs (timerSet a s) timer) timer (stageBy s c) n) ≡ cond (not (runs (timerSet a s) timer)) 10 0
     by false d q w = rw q
     by true false q w = rw (q, w)
     by true true q w =
@@ -143,11 +135,11 @@ choice-is e n q = λ i. record { kind = e .kind; call = e .call; place = e .plac
 
 module _ (t : Table) (size : length (t .places) ≡ 96) (e : Event) where
   -- a signal at an occupied place
-  at-place : (s : Signal) (i : ℕ) → isFree (recordAt t i .state) ≡ false → carriedOut (On s) t e (To i) .answer .number ≡ numberOf (turnOn s (sideAt i) (recordAt t i) e)
+  at-place : (s : Signal) (i : ℕ) → isFree (recordAt t i .state) ≡ false → carriedOut (On s) t e (To i) .answer .number ≡ outcomeNumber (turnOn s (sideAt i) (recordAt t i) e)
   at-place s i busy = rw busy (settled-number t e i (recordAt t i .call) (turnOn s (sideAt i) (recordAt t i) e))
 
   -- a signal on a named call
-  named-number : (s : Signal) (after : Side → Record → ℕ) → ((a : Side) (r : Record) → numberOf (turnOn s a r e) ≡ after a r)
+  named-number : (s : Signal) (after : Side → Record → ℕ) → ((a : Side) (r : Record) → outcomeNumber (turnOn s a r e) ≡ after a r)
       → carriedOut (On s) t e (aimNamed t e) .answer .number ≡ cond (not (isFound (findCall t (e .call)))) 5 (after (sideFound (findCall t (e .call))) (recordFound t (findCall t (e .call))))
   named-number s after number = by (findCall t (e .call)) refl
     where
@@ -194,12 +186,12 @@ module _ (t : Table) (size : length (t .places) ≡ 96) (e : Event) where
       by (At i) = refl
       by Nothing = place (isProposed t d (e .place)) refl
 
--- a pickup of a call that waits on a side, and the rows 2, 5, 6 and 7 of a pickup
-module _ (t : Table) (size : length (t .places) ≡ 96) (s : Signal) (number : (e : Event) (a : Side) (r : Record) → numberOf (turnOn s a r e) ≡ cond (isTaken (r .state)) 7 0) where
+-- a pickup of a call that waits on a side, and the rows 2, 5, 6, 7, 11 and 12 of a pickup
+module _ (t : Table) (size : length (t .places) ≡ 96) (s : Signal) (number : (e : Event) (a : Side) (r : Record) → outcomeNumber (turnOn s a r e) ≡ takenNumber (r .state)) where
   waiting-number : (e : Event) (a : Side) → carriedOut (On s) t e (aimAt (nextWaiting t a) NothingWaits) .answer .number ≡ cond (not (isFound (nextWaiting t a))) 6 0
   waiting-number e a = by (nextWaiting t a) refl
     where
-      waits : (a : Side) (s : State) → sameState s (waitingOn a) ≡ true → (isFree s ≡ false) × (isTaken s ≡ false)
+      waits : (a : Side) (s : State) → sameState s (waitingOn a) ≡ true → (isFree s ≡ false) × (takenNumber s ≡ 0)
       waits Position ParkWaiting h = (refl, refl)
       waits Line LineWaiting h = (refl, refl)
       waits Position Free h = never h
@@ -224,11 +216,13 @@ module _ (t : Table) (size : length (t .places) ≡ 96) (s : Signal) (number : (
       ≡ cond (ltb 2 (e .choice)) 2
       (cond (eqb (e .choice) 0 && not (isFound (findCall t (e .call)))) 5
       (cond (not (eqb (e .choice) 0) && not (isFound (nextWaiting t (cond (eqb (e .choice) 1) Position Line)))) 6
-      (cond (eqb (e .choice) 0 && isTaken (recordFound t (findCall t (e .call)) .state)) 7 0)))
+      (cond (eqb (e .choice) 0 && sameState (recordFound t (findCall t (e .call)) .state) Requested) 7
+      (cond (eqb (e .choice) 0 && sameState (recordFound t (findCall t (e .call)) .state) RemoteRequested) 11
+      (cond (eqb (e .choice) 0 && sameState (recordFound t (findCall t (e .call)) .state) HandedOver) 12 0)))))
 
   pickup-rows : (e : Event) → PickupRows e
   pickup-rows e =
-      ⊎-elim (λ q. subst PickupRows (sym (choice-is e 0 q)) (named-number t size (withChoice 0 e) s (λ a r. cond (isTaken (r .state)) 7 0) (number (withChoice 0 e))))
+      ⊎-elim (λ q. subst PickupRows (sym (choice-is e 0 q)) (named-number t size (withChoice 0 e) s (λ a r. takenNumber (r .state)) (number (withChoice 0 e))))
       (λ n0. ⊎-elim (λ q. subst PickupRows (sym (choice-is e 1 q)) (waiting-number (withChoice 1 e) Position))
       (λ n1. ⊎-elim (λ q. subst PickupRows (sym (choice-is e 2 q)) (waiting-number (withChoice 2 e) Line))
       (λ n2.
@@ -262,12 +256,12 @@ module _ (t : Table) (size : length (t .places) ≡ 96) (sound : isSound t ≡ t
   kind-3 : (e : Event) → Ordered (withKind 3 e)
   kind-3 e =
       rw (sound, or-false (ltb 2 (e .choice)), or-false (eqb (e .choice) 0))
-      (pickup-rows t size LocalPickup (λ x a r. pickup-number (r .state) (r .connection) AskedHere (up (r .count)) (Connect (up (r .count)))) (withKind 3 e))
+      (pickup-rows t size LocalPickup (λ x a r. pickup-numbered (r .state) (r .connection) AskedHere (up (r .count)) (Connect (up (r .count))) ∙ taken-rows (r .state)) (withKind 3 e))
 
   kind-4 : (e : Event) → Ordered (withKind 4 e)
   kind-4 e =
       rw (sound, or-false (ltb 2 (e .choice)), or-false (eqb (e .choice) 0))
-      (pickup-rows t size PickRequest (λ x a r. pickup-number (r .state) (r .connection) (AskedFrom (x .connection)) (up (r .count)) (Facility (up (r .count)))) (withKind 4 e))
+      (pickup-rows t size PickRequest (λ x a r. pickup-numbered (r .state) (r .connection) (AskedFrom (x .connection)) (up (r .count)) (Facility (up (r .count))) ∙ taken-rows (r .state)) (withKind 4 e))
 
   -- the rows 8 and 9
   abbrev replyRows : Event → Side → Record → ℕ

@@ -52,15 +52,6 @@ abbrev pub sideFound : Found → Side
 sideFound (At i) = sideAt i
 sideFound Nothing = Position
 
--- "call in state 3, 4 or 5"
-abbrev pub isTaken : State → Bool
-isTaken Free = false
-isTaken ParkWaiting = false
-isTaken LineWaiting = false
-isTaken Requested = true
-isTaken RemoteRequested = true
-isTaken HandedOver = true
-
 -- "state .. 3 or 4"
 abbrev pub isAsked : State → Bool
 isAsked Free = false
@@ -113,8 +104,10 @@ module _ (t : Table) (e : Event) where
       ∷ row 5 ((byChoice0 || isLater) && not (isFound held))
       -- choice 1 or 2: nothing waits there
       ∷ row 6 (isPickup && not (eqb (e .choice) 0) && not (isFound (nextWaiting t (cond (eqb (e .choice) 1) Position Line))))
-      -- choice 0: call in state 3, 4 or 5
-      ∷ row 7 (byChoice0 && isTaken state)
+      -- choice 0: call in state 3, 4 or 5. Q-3: "Keep 7 for state 3, and use 11 for state 4 and 12 for state 5."
+      ∷ row 7 (byChoice0 && sameState state Requested)
+      ∷ row 11 (byChoice0 && sameState state RemoteRequested)
+      ∷ row 12 (byChoice0 && sameState state HandedOver)
       -- kinds 5, 6: state not 3 or 4; kind 9: state not 2
       ∷ row 8 (isReply && not (isAsked state) || isKind 9 && not (sameState state LineWaiting))
       -- kinds 5, 6: invoke is not the outstanding number

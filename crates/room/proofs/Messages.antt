@@ -17,22 +17,18 @@ use Rattle.table.specs.declared.Record.{Record}
 use Rattle.table.specs.Places.{noConnection, noInvoke}
 use Rattle.events.specs.declared.Event.{Event}
 use Rattle.events.specs.declared.rule.Rule.{Rule}
-use Rattle.events.specs.declared.rule.Rule.the-variants.{Start, On, Unknown}
 use Rattle.events.specs.declared.rule.Signal.{Signal}
-use Rattle.events.specs.declared.rule.Signal.the-variants.{LocalPickup, PickRequest, PickupResult, PickupError, ErrorInRelease, Release, Answered, Expiry}
 use Rattle.events.specs.declared.message.Message.{Message}
 use Rattle.events.specs.declared.message.Message.the-variants.{NoMessage, ParkResult, ParkError, Connect, Facility, PickResult, PickError, ReleaseComplete}
 use Rattle.events.specs.declared.message.Sent.{Sent}
-use Rattle.events.specs.declared.message.ErrorValue.the-variants.{Undefined, CallAlreadyPickedUp}
-use Rattle.events.specs.declared.refusal.Refusal.{Refusal}
-use Rattle.events.specs.declared.refusal.Refusal.the-variants.{UnknownKind, ChoiceOrTimer, CallHeld, SideFull, CallNotHeld, NothingWaits, PickupPending, StateUnfit, NotOutstanding, TimerNotRunning, TableUnsound}
+use Rattle.events.specs.declared.message.ErrorValue.the-variants.{Undefined}
 use Rattle.events.specs.declared.turn.Stage.{Stage}
 use Rattle.events.specs.declared.turn.Stage.the-variants.{Waits, AskedHere, AskedFrom, Taken}
 use Rattle.events.specs.declared.turn.Outcome.{Outcome}
 use Rattle.events.specs.declared.turn.Outcome.the-variants.{Refused, Freed, Becomes}
 use Rattle.events.specs.Message.{messageConnection, messageInvoke, sent}
-use Rattle.events.specs.Refusal.{parkRefused, pickRequestRefused, refusalMessage}
 use Rattle.events.specs.Turn.{stageBy, stageOf, greeting, up, turnOn}
+use Rattle.events.proofs.Refusals.{Tells, nothing, parker, picker}
 use Rattle.events.proofs.Outcomes.{GoesOn, asked-here, asked-from, handed-over, turned-down, Ends, freed, cut-off, freed-and-told, cut-off-and-told, Does, does}
 use Rattle.room.specs.Room.{Bare}
 
@@ -75,45 +71,10 @@ module _ (P : ℕ → Type 0) (at-0 : P 0) where
 
   -- ---- with a refusal
 
-  park-refused-sent : (w : Refusal) → Sends (parkRefused w)
-  park-refused-sent UnknownKind = nothing-sent
-  park-refused-sent ChoiceOrTimer = nothing-sent
-  park-refused-sent CallHeld = sends ParkError at-0 (lit≤ tt)
-  park-refused-sent SideFull = sends ParkError at-0 (lit≤ tt)
-  park-refused-sent CallNotHeld = nothing-sent
-  park-refused-sent NothingWaits = nothing-sent
-  park-refused-sent PickupPending = nothing-sent
-  park-refused-sent StateUnfit = nothing-sent
-  park-refused-sent NotOutstanding = nothing-sent
-  park-refused-sent TimerNotRunning = nothing-sent
-  park-refused-sent TableUnsound = nothing-sent
-
-  module _ (c : Connection) (h : P (c .0)) where
-    pick-refused-sent : (w : Refusal) → Sends (pickRequestRefused w c)
-    pick-refused-sent UnknownKind = nothing-sent
-    pick-refused-sent ChoiceOrTimer = sends (PickError c Undefined) h (lit≤ tt)
-    pick-refused-sent CallHeld = nothing-sent
-    pick-refused-sent SideFull = nothing-sent
-    pick-refused-sent CallNotHeld = sends (PickError c Undefined) h (lit≤ tt)
-    pick-refused-sent NothingWaits = sends (PickError c Undefined) h (lit≤ tt)
-    pick-refused-sent PickupPending = sends (PickError c CallAlreadyPickedUp) h (lit≤ tt)
-    pick-refused-sent StateUnfit = nothing-sent
-    pick-refused-sent NotOutstanding = nothing-sent
-    pick-refused-sent TimerNotRunning = nothing-sent
-    pick-refused-sent TableUnsound = nothing-sent
-
-    pub refusal-sent : (k : Rule) (w : Refusal) → Sends (refusalMessage k w c)
-    refusal-sent (Start Position) w = park-refused-sent w
-    refusal-sent (Start Line) w = nothing-sent
-    refusal-sent (On LocalPickup) w = nothing-sent
-    refusal-sent (On PickRequest) w = pick-refused-sent w
-    refusal-sent (On PickupResult) w = nothing-sent
-    refusal-sent (On PickupError) w = nothing-sent
-    refusal-sent (On ErrorInRelease) w = nothing-sent
-    refusal-sent (On Release) w = nothing-sent
-    refusal-sent (On Answered) w = nothing-sent
-    refusal-sent (On Expiry) w = nothing-sent
-    refusal-sent Unknown w = nothing-sent
+  pub refusal-sent : (c : Connection) (k : Rule) (m : Message) → P (c .0) → Tells c k m → Sends m
+  refusal-sent c k m h nothing = nothing-sent
+  refusal-sent c k m h parker = sends ParkError at-0 (lit≤ tt)
+  refusal-sent c k m h (picker x) = sends (PickError c x) h (lit≤ tt)
 
   -- ---- with what is done at a place
 

@@ -28,6 +28,7 @@ use Rattle.lines.specs.AnswerLine.{sentLine, answerLine}
 use Rattle.lines.proofs.Decimal.{length-digit, length-two, length-five}
 use Rattle.lines.proofs.Lengths.{length-sent, length-answer}
 use Rattle.room.specs.Room.{RoomSuffices, Bare, Light, AnswersLight, longest, NoneLonger, LongestGiven}
+use Rattle.events.proofs.Refusals.{tells}
 use Rattle.room.proofs.Messages.{nothing-bare, Within, nothing-sent, greeting-sent, refusal-sent, turns}
 
 -- ---- what goes out with a step
@@ -44,7 +45,7 @@ module _ (P : ℕ → Type 0) (at-0 : P 0) where
 
   outgoing : (t : Table) (size : Full t) (e : Event) → ((i : ℕ) → i < 96 → P (recordAt t i .connection .0)) → P (e .connection .0)
       → (s : Step) → Stepped t size e s → Outgoing P (s .answer)
-  outgoing t size e held given s (kept w) = alone (s .answer) (refusal-sent P at-0 (e .connection) given (ruleOf (e .kind)) w) refl
+  outgoing t size e held given s (kept w) = alone (s .answer) (refusal-sent P at-0 (e .connection) (ruleOf (e .kind)) _ given (tells (e .connection) (ruleOf (e .kind)) w)) refl
   outgoing t size e held given s (begun d i sound rule room) = alone (s .answer) (greeting-sent P at-0 d) refl
   outgoing t size e held given s (ended k i first second at turn) =
       let x = rw turn at (turns P at-0 (sideAt i) (recordAt t i) e (held i (at .inside)) k) in

@@ -15,7 +15,7 @@ use borrow.Author.Tests.{lt-ltb, ltb-true, ltb-false, ne-eqb}
 use Rattle.laws.proofs.Bools.{less-or}
 use Rattle.table.specs.declared.Table.{Table}
 use Rattle.table.specs.Places.{emptyTable}
-use Rattle.lines.specs.EventLine.{readLine}
+use Rattle.lines.specs.EventLine.{reading, readLine}
 use Rattle.lent.specs.LineStep.{stepRead, lineStep}
 use Rattle.lines.specs.AnswerLine.{answerLine}
 use Rattle.image.specs.Image.{imageOf}
@@ -49,7 +49,7 @@ pieces-whole s (p ∷ ps) =
 -- ---- a line is read by its first 63 octets
 
 read-by-63 : (line : List ℕ) → readLine (take 63 line) ≡ readLine line
-unfolding readLine
+unfolding readLine reading
 read-by-63 line =
     ⊎-elim
     (λ short. rw (take-all 63 line (omega arith)))

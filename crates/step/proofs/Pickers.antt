@@ -19,25 +19,23 @@ use Rattle.table.specs.Places.{isFree, sideAt, freeRecord, recordAt}
 use Rattle.table.proofs.Keep.{put, put-here, put-other}
 use Rattle.events.specs.declared.Event.{Event}
 use Rattle.events.specs.declared.rule.Rule.{Rule}
-use Rattle.events.specs.declared.rule.Rule.the-variants.{Start, On, Unknown}
-use Rattle.events.specs.declared.rule.Signal.the-variants.{LocalPickup, PickRequest, PickupResult, PickupError, ErrorInRelease, Release, Answered, Expiry}
+use Rattle.events.specs.declared.rule.Rule.the-variants.{On}
+use Rattle.events.specs.declared.rule.Signal.the-variants.{PickRequest}
+use Rattle.events.specs.declared.message.Message.{Message}
 use Rattle.events.specs.declared.message.Message.the-variants.{NoMessage}
-use Rattle.events.specs.declared.refusal.Refusal.{Refusal}
-use Rattle.events.specs.declared.refusal.Refusal.the-variants.{UnknownKind, ChoiceOrTimer, CallHeld, SideFull, CallNotHeld, NothingWaits, PickupPending, StateUnfit, NotOutstanding, TimerNotRunning, TableUnsound}
 use Rattle.events.specs.declared.turn.Stage.{Stage}
 use Rattle.events.specs.declared.turn.Stage.the-variants.{Waits, AskedHere, AskedFrom, Taken}
 use Rattle.events.specs.Rule.{ruleOf}
 use Rattle.events.specs.Message.{sent}
-use Rattle.events.specs.Refusal.{refusalMessage}
 use Rattle.events.specs.Reply.{replies, RepliesOnce}
 use Rattle.events.specs.Turn.{stateAt, heldRecord, greeting}
 use Rattle.events.proofs.Outcomes.{isOut}
 use Rattle.events.proofs.Replies.{told, silent}
+use Rattle.events.proofs.Refusals.{refused-not-0, Tells, nothing, parker, picker, tells}
 use Rattle.step.specs.declared.Step.{Step}
 use Rattle.step.specs.Step.{stepOf}
 use Rattle.step.specs.Promises.{Leaves4, PickerToldOnce, leaves, refused, RepliesHaveCause}
 use Rattle.step.proofs.Stepped.{Stepped, kept, begun, ended, went-on, stepped}
-use Rattle.step.proofs.Promises.{refused-not-0}
 
 free≢remote : Free ≡ RemoteRequested → ⊥
 free≢remote q = let z : _≡_ {A = ℕ} 0 1 = cc q in omega arith
@@ -63,35 +61,10 @@ greeting-silent Position = refl
 greeting-silent Line = refl
 
 -- a refusal tells a picker only where a pickrequ is refused
-module _ (c : Connection) where
-  abbrev Quiet : Rule → Refusal → Type 0
-  Quiet k w = replies (sent (refusalMessage k w c)) (sent NoMessage) ≡ 0
-
-  park-quiet : (w : Refusal) → Quiet (Start Position) w
-  park-quiet UnknownKind = refl
-  park-quiet ChoiceOrTimer = refl
-  park-quiet CallHeld = refl
-  park-quiet SideFull = refl
-  park-quiet CallNotHeld = refl
-  park-quiet NothingWaits = refl
-  park-quiet PickupPending = refl
-  park-quiet StateUnfit = refl
-  park-quiet NotOutstanding = refl
-  park-quiet TimerNotRunning = refl
-  park-quiet TableUnsound = refl
-
-  pickrequ-or-quiet : (k : Rule) (w : Refusal) → (k ≡ On PickRequest) ⊎ Quiet k w
-  pickrequ-or-quiet (Start Position) w = inr (park-quiet w)
-  pickrequ-or-quiet (Start Line) w = inr refl
-  pickrequ-or-quiet (On LocalPickup) w = inr refl
-  pickrequ-or-quiet (On PickRequest) w = inl refl
-  pickrequ-or-quiet (On PickupResult) w = inr refl
-  pickrequ-or-quiet (On PickupError) w = inr refl
-  pickrequ-or-quiet (On ErrorInRelease) w = inr refl
-  pickrequ-or-quiet (On Release) w = inr refl
-  pickrequ-or-quiet (On Answered) w = inr refl
-  pickrequ-or-quiet (On Expiry) w = inr refl
-  pickrequ-or-quiet Unknown w = inr refl
+pickrequ-or-quiet : (c : Connection) (k : Rule) (m : Message) → Tells c k m → (k ≡ On PickRequest) ⊎ (replies (sent m) (sent NoMessage) ≡ 0)
+pickrequ-or-quiet c k m nothing = inr refl
+pickrequ-or-quiet c k m parker = inr refl
+pickrequ-or-quiet c k m (picker x) = inl refl
 
 module _ (t : Table) (size : length (t .places) ≡ 96) (e : Event) where
   -- ---- told once
@@ -119,7 +92,7 @@ module _ (t : Table) (size : length (t .places) ≡ 96) (e : Event) where
   CauseOf s = ((j : ℕ) × (j < 96) × Leaves4 t (s .table) j) ⊎ ((s .answer .number ≡ 0 → ⊥) × (ruleOf (e .kind) ≡ On PickRequest))
 
   cause : (s : Step) → Stepped t size e s → (replies (s .answer .first) (s .answer .second) ≡ 0 → ⊥) → CauseOf s
-  cause s (kept w) some = ⊎-elim (λ rule. inr (refused-not-0 w, rule)) (λ quiet. absurd (some quiet)) (pickrequ-or-quiet (e .connection) (ruleOf (e .kind)) w)
+  cause s (kept w) some = ⊎-elim (λ rule. inr (refused-not-0 w, rule)) (λ quiet. absurd (some quiet)) (pickrequ-or-quiet (e .connection) (ruleOf (e .kind)) _ (tells (e .connection) (ruleOf (e .kind)) w))
   cause s (begun d i sound rule room) some = absurd (some (greeting-silent d))
   cause s (ended k i first second at turn) some =
       ⊎-elim (λ was. inl (

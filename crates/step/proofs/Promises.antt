@@ -33,7 +33,7 @@ use Rattle.events.specs.declared.rule.Signal.the-variants.{LocalPickup, PickReq
 use Rattle.events.specs.declared.message.Message.{Message}
 use Rattle.events.specs.declared.message.Message.the-variants.{NoMessage, PickResult}
 use Rattle.events.specs.declared.refusal.Refusal.{Refusal}
-use Rattle.events.specs.declared.refusal.Refusal.the-variants.{UnknownKind, ChoiceOrTimer, CallHeld, SideFull, CallNotHeld, NothingWaits, PickupPending, StateUnfit, NotOutstanding, TimerNotRunning, TableUnsound}
+use Rattle.events.specs.declared.refusal.Refusal.the-variants.{CallNotHeld, TableUnsound}
 use Rattle.events.specs.declared.turn.Stage.{Stage}
 use Rattle.events.specs.declared.turn.Stage.the-variants.{Waits, Taken}
 use Rattle.events.specs.declared.turn.Outcome.{Outcome}
@@ -41,31 +41,17 @@ use Rattle.events.specs.declared.turn.Outcome.the-variants.{Refused, Freed, Bec
 use Rattle.step.specs.declared.aim.Aim.{Aim}
 use Rattle.step.specs.declared.aim.Aim.the-variants.{To, Nowhere}
 use Rattle.events.specs.Rule.{ruleOf}
-use Rattle.events.specs.Refusal.{refusalNumber}
-use Rattle.events.specs.Turn.{heldRecord, stageOf, greeting, isOutstanding, toPicker, turnOn, turn}
+use Rattle.events.specs.Turn.{heldRecord, stageOf, greeting, isOutstanding, turnOn, turn}
 use Rattle.step.specs.Aim.{aim, aimAt, aimNamed, aimOn, nextWaiting}
 use Rattle.events.specs.Act.{stayCall}
 use Rattle.events.proofs.Released.{error-in-release}
+use Rattle.events.proofs.Refusals.{refused-not-0}
 use Rattle.step.specs.Step.{refusedBy, done, settled, carriedOut, stepOf}
 use Rattle.step.specs.Promises.{IsAccepted, KeepsSound, RefusalKeeps, Move, starts, AtOnePlace, AcceptedAtOnePlace, one-if, T3RunsThrough, namesCall, byName, MatchedByCall, NotHeldIs5, StartAnswersItsCall, onlyNamed, IgnoresOtherFields, ReleaseFrees, RemoteResultHolds}
 use Rattle.step.proofs.Aims.{aim-on, aim-lost, free-number}
 use Rattle.step.proofs.Turns.{stage-fits, waiting-offered, stage-occupied, stage-connection, move-end, move-on, result-in-4}
 use Rattle.step.proofs.Timers.{t3-started}
 use Rattle.step.proofs.Stepped.{Reached, Stepped, kept, begun, ended, went-on, refused-stays, stepped}
-
--- no refusal has the number of an accepted event
-pub refused-not-0 : (w : Refusal) → refusalNumber w ≡ 0 → ⊥
-refused-not-0 UnknownKind h = omega arith
-refused-not-0 ChoiceOrTimer h = omega arith
-refused-not-0 CallHeld h = omega arith
-refused-not-0 SideFull h = omega arith
-refused-not-0 CallNotHeld h = omega arith
-refused-not-0 NothingWaits h = omega arith
-refused-not-0 PickupPending h = omega arith
-refused-not-0 StateUnfit h = omega arith
-refused-not-0 NotOutstanding h = omega arith
-refused-not-0 TimerNotRunning h = omega arith
-refused-not-0 TableUnsound h = omega arith
 
 -- kind 1 is the only one that parks
 abbrev parks : Rule → Bool
@@ -247,31 +233,27 @@ module _ (t : Table) (size : length (t .places) ≡ 96) (e : Event) where
   -- ---- the two slips
 
   module _ (sound : isSound t ≡ true) (j : ℕ) (inside : j < 96) (held : holds (e .call) (recordAt t j) ≡ true) where
-    Freeing : Signal → Type 0
-    Freeing k = (r : Record) (a : Side) → (m : Message) × (turnOn k a r e ≡ Freed m NoMessage)
-
-    frees : (k : Signal) → ruleOf (e .kind) ≡ On k → aimOn (nextWaiting t) k t e ≡ aimNamed t e → Freeing k
-        → IsAccepted t e × (stepOf t e .answer .state ≡ 0)
-    unfolding Freeing
-    frees k rule named freeing = rw (sound, rule, named) (by (findCall t (e .call)) refl)
+    -- a signal on a held call does its turn at the place that holds it
+    pub on-held : (k : Signal) → ruleOf (e .kind) ≡ On k → aimOn (nextWaiting t) k t e ≡ aimNamed t e → (P : Step → Type 0)
+        → P (settled t e j (recordAt t j .call) (turnOn k (sideAt j) (recordAt t j) e)) → P (stepOf t e)
+    on-held k rule named P turned = rw (sound, rule, named) (by (findCall t (e .call)) refl)
       where
-        at : (i : ℕ) → isFree (recordAt t i .state) ≡ false → (u : Outcome) → turnOn k (sideAt i) (recordAt t i) e ≡ u → (m : Message) → u ≡ Freed m NoMessage
-            → (carriedOut (On k) t e (To i) .answer .number ≡ 0) × (carriedOut (On k) t e (To i) .answer .state ≡ 0)
-        at i busy u q m f = rw (busy, q, f) (refl, refl)
-
-        by : (f : Found) → findCall t (e .call) ≡ f
-            → (carriedOut (On k) t e (aimAt f CallNotHeld) .answer .number ≡ 0) × (carriedOut (On k) t e (aimAt f CallNotHeld) .answer .state ≡ 0)
+        by : (f : Found) → findCall t (e .call) ≡ f → P (carriedOut (On k) t e (aimAt f CallNotHeld))
         by (At i) q =
             let h = found-passes t size (λ n. holds (e .call)) i q in
-            let f = freeing (recordAt t i) (sideAt i) in
-            at i (holds-occupied (e .call) (recordAt t i) (h .1)) (turnOn k (sideAt i) (recordAt t i) e) refl (f .0) (f .1)
+            let busy = holds-occupied (e .call) (recordAt t j) held in
+            let call : recordAt t i .call ≡ recordAt t j .call = holds-same (e .call) (recordAt t i) (h .1) ∙ sym (holds-same (e .call) (recordAt t j) held) in
+            let same : i ≡ j = facts-of-test t size sound .one-place i j (h .0) inside (holds-occupied (e .call) (recordAt t i) (h .1)) busy call in
+            rw (same, busy) turned
         by Nothing q = absurd (not-both held (none-passes t size (λ n. holds (e .call)) q j inside))
 
+    frees : (k : Signal) (m : Message) → ruleOf (e .kind) ≡ On k → aimOn (nextWaiting t) k t e ≡ aimNamed t e
+        → turnOn k (sideAt j) (recordAt t j) e ≡ Freed m NoMessage → IsAccepted t e × (stepOf t e .answer .state ≡ 0)
+    frees k m rule named freed = on-held k rule named (λ (s : Step). (s .answer .number ≡ 0) × (s .answer .state ≡ 0)) (rw freed (refl, refl))
+
     release-freeing : (e .kind ≡ 7) ⊎ (e .kind ≡ 8) → IsAccepted t e × (stepOf t e .answer .state ≡ 0)
-    unfolding Freeing
-    release-freeing (inl q) =
-        frees ErrorInRelease (rw q) refl (λ r a. (toPicker (stageOf r), error-in-release (stageOf r) (isOutstanding r (e .invoke))))
-    release-freeing (inr q) = frees Release (rw q) refl (λ r a. (toPicker (stageOf r), refl))
+    release-freeing (inl q) = frees ErrorInRelease _ (rw q) refl (error-in-release (stageOf (recordAt t j)) (isOutstanding (recordAt t j) (e .invoke)))
+    release-freeing (inr q) = frees Release _ (rw q) refl refl
 
   -- the result's signal in state 4
   module _ (kind : e .kind ≡ 5) where

@@ -18,30 +18,16 @@ use Rattle.step.specs.declared.Step.{Step}
 use Rattle.events.specs.declared.message.Message.{Message}
 use Rattle.events.specs.declared.message.Message.the-variants.{NoMessage, ParkResult, ParkError, Connect, Facility, PickResult, PickError, ReleaseComplete}
 use Rattle.events.specs.declared.message.ErrorValue.the-variants.{Undefined, CallAlreadyPickedUp}
-use Rattle.events.specs.declared.refusal.Refusal.{Refusal}
-use Rattle.events.specs.declared.refusal.Refusal.the-variants.{UnknownKind, ChoiceOrTimer, CallHeld, SideFull, CallNotHeld, NothingWaits, PickupPending, StateUnfit, NotOutstanding, TimerNotRunning, TableUnsound}
 use Rattle.events.specs.declared.turn.Stage.the-variants.{Waits}
 use Rattle.events.specs.Rule.{ruleOf}
 use Rattle.events.specs.Turn.{heldRecord, greeting}
 use Rattle.events.specs.Message.{messageNumber, messageError, sent}
 use Rattle.events.specs.Refusal.{refusalNumber, refusalMessage}
 use Rattle.events.specs.Answers.{saying}
+use Rattle.events.proofs.Refusals.{numbered}
 use Rattle.step.specs.Step.{done, stepOf}
 use Rattle.step.specs.Promises.{SmallSent, Small, AnswersSmall}
 use Rattle.step.proofs.Stepped.{Stepped, kept, begun, ended, went-on, stepped}
-
-refusal-below : (w : Refusal) → refusalNumber w ≤ 25
-refusal-below UnknownKind = lit≤ tt
-refusal-below ChoiceOrTimer = lit≤ tt
-refusal-below CallHeld = lit≤ tt
-refusal-below SideFull = lit≤ tt
-refusal-below CallNotHeld = lit≤ tt
-refusal-below NothingWaits = lit≤ tt
-refusal-below PickupPending = lit≤ tt
-refusal-below StateUnfit = lit≤ tt
-refusal-below NotOutstanding = lit≤ tt
-refusal-below TimerNotRunning = lit≤ tt
-refusal-below TableUnsound = lit≤ tt
 
 message-below : (m : Message) → messageNumber m ≤ 7
 message-below NoMessage = lit≤ tt
@@ -103,7 +89,7 @@ pub answers-small : AnswersSmall
 answers-small t e size = by (stepOf t e) (stepped t size e)
   where
     by : (s : Step) → Stepped t size e s → Small (s .answer)
-    by s (kept w) = saying-small (refusalNumber w) (refusalMessage (ruleOf (e .kind)) w (e .connection)) (refusal-below w)
+    by s (kept w) = saying-small (refusalNumber w) (refusalMessage (ruleOf (e .kind)) w (e .connection)) (numbered w .to)
     by s (begun d i sound rule room) = done-small t i (heldRecord (sideAt i) Waits (e .call) noInvoke) (e .call) (greeting d) NoMessage
     by s (ended k i first second at turn) = done-small t i freeRecord (recordAt t i .call) first second
     by s (went-on k i g n m at turn) = done-small t i (heldRecord (sideAt i) g (recordAt t i .call) n) (recordAt t i .call) m NoMessage

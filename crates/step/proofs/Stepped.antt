@@ -30,6 +30,7 @@ use Rattle.step.specs.declared.aim.Aim.{Aim}
 use Rattle.step.specs.declared.aim.Aim.the-variants.{To, Nowhere}
 use Rattle.events.specs.Rule.{ruleOf}
 use Rattle.events.specs.Answers.{declined}
+use Rattle.events.specs.Taken.{outcomeNumber}
 use Rattle.events.specs.Turn.{heldRecord, greeting, turnOn}
 use Rattle.step.specs.Aim.{aim, aimOn, nextWaiting}
 use Rattle.step.specs.Step.{refusedBy, done, settled, carriedOut, stepOf}
@@ -51,6 +52,12 @@ pub data Stepped (t : Table) (size : length (t .places) ≡ 96) (e : Event) : St
       → Stepped t size e (done t i freeRecord (recordAt t i .call) first second)
   went-on : (s : Signal) (i : ℕ) (g : Stage) (n : Invoke) (m : Message) → Reached t e s i → turnOn s (sideAt i) (recordAt t i) e ≡ Becomes g n m
       → Stepped t size e (done t i (heldRecord (sideAt i) g (recordAt t i .call) n) (recordAt t i .call) m NoMessage)
+
+-- what is settled at a place has the number of its outcome
+pub settled-number : (t : Table) (e : Event) (i : ℕ) (call : List ℕ) (u : Outcome) → settled t e i call u .answer .number ≡ outcomeNumber u
+settled-number t e i call (Refused w) = refl
+settled-number t e i call (Freed first second) = refl
+settled-number t e i call (Becomes g n m) = refl
 
 -- a refusal leaves the record as it was, and so the table
 pub refused-stays : (t : Table) (e : Event) (i : ℕ) (call : List ℕ) (w : Refusal) → refusedBy t e w ≡ settled t e i call (Refused w)

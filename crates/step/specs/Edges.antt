@@ -1,5 +1,5 @@
--- The twelve edges (document 01, "Twelve edges to prove") and, after them, those of document 02's Q-1: each from the table that it names,
--- with the whole answer and the whole table after it, as one list under one statement. `proofs/Edges.antt` computes them from the definitions.
+-- The twelve edges (document 01, "Twelve edges to prove") and, after them, those of document 02's Q-1 and Q-3: each from the table that it
+-- names, with the whole answer and the whole table after it, as one list under one statement. `proofs/Edges.antt` computes them from the definitions.
 -- Assumes nothing.
 use mathlib.Core.Path.{_≡_}
 use mathlib.Core.List.{List, [], _∷_, _++_}
@@ -9,7 +9,7 @@ use Rattle.table.specs.declared.Record.{Record}
 use Rattle.table.specs.declared.Table.{Table}
 use Rattle.table.specs.declared.State.{State}
 use Rattle.table.specs.declared.State.the-variants.{ParkWaiting, LineWaiting, Requested, RemoteRequested, HandedOver}
-use Rattle.table.specs.Places.{noConnection, noCall, freeRecord, emptyTable}
+use Rattle.table.specs.Places.{noPlace, noConnection, noInvoke, noCall, freeRecord, emptyTable}
 use Rattle.events.specs.declared.Event.{Event}
 use Rattle.events.specs.declared.Answer.{Answer}
 use Rattle.events.specs.declared.message.Sent.{Sent}
@@ -47,6 +47,10 @@ event kind n place invoke timer = record {
   invoke = record { 0 = invoke };
   timer = timer;
 }
+
+-- a pickrequ of call 1 by name, on a connection
+abbrev pub pickrequ : ℕ → Event
+pickrequ c = record { kind = 4; call = callOf 1; place = noPlace; choice = 0; connection = record { 0 = c }; invoke = noInvoke; timer = 0 }
 
 -- a message's four fields
 abbrev pub says : ℕ → ℕ → ℕ → ℕ → Sent
@@ -97,8 +101,8 @@ edges =
     ∷ edge (with 7 (held Requested 0 1)) (event 10 1 0 0 3) emptyTable (answer 0 (callOf 1) 7 0 7 0 0 0 0 3 0 0 0 0)
     -- 8. State 4, kind 6, right number: state 1, message 6, stopped 4.
     ∷ edge (with 7 (held RemoteRequested 900 1)) (event 6 1 0 1 0) (with 7 (held ParkWaiting 0 1)) (answer 0 (callOf 1) 7 1 6 900 0 1 0 4 0 0 0 0)
-    -- 9. State 5, pickrequ by name: 7, error 2.
-    ∷ refusal (with 7 (held HandedOver 0 1)) (event 4 1 0 0 0) (answer 7 noCall 0 0 6 0 0 2 0 0 0 0 0 0)
+    -- 9. State 5, pickrequ by name: 12 ("Edge 9 becomes 12", Q-3), error 2.
+    ∷ refusal (with 7 (held HandedOver 0 1)) (event 4 1 0 0 0) (answer 12 noCall 0 0 6 0 0 2 0 0 0 0 0 0)
     -- 10. State 1, kind 7: freed.
     ∷ edge (with 7 (held ParkWaiting 0 1)) (event 7 1 0 0 0) emptyTable (answer 0 (callOf 1) 7 0 0 0 0 0 0 1 0 0 0 0)
     -- 11. Count 65,535 in state 1, local pickup: invoke 0.
@@ -114,6 +118,13 @@ edges =
     -- Q-1. State 5: the picker has its result, and hears nothing more.
     ∷ edge (with 7 (held HandedOver 0 1)) (event 8 1 0 0 0) emptyTable (answer 0 (callOf 1) 7 0 0 0 0 0 0 1 0 0 0 0)
     ∷ edge (with 7 (held HandedOver 0 1)) (event 10 1 0 0 3) emptyTable (answer 0 (callOf 1) 7 0 7 0 0 0 0 1 0 0 0 0)
+    -- Q-3. A pickup by name, local and from elsewhere: 7 in state 3, 11 in state 4, 12 in state 5; error 2 in all three.
+    ∷ refusal (with 7 (held Requested 0 1)) (event 3 1 0 0 0) (answer 7 noCall 0 0 0 0 0 0 0 0 0 0 0 0)
+    ∷ refusal (with 7 (held Requested 0 1)) (pickrequ 901) (answer 7 noCall 0 0 6 901 0 2 0 0 0 0 0 0)
+    ∷ refusal (with 7 (held RemoteRequested 900 1)) (event 3 1 0 0 0) (answer 11 noCall 0 0 0 0 0 0 0 0 0 0 0 0)
+    ∷ refusal (with 7 (held RemoteRequested 900 1)) (pickrequ 901) (answer 11 noCall 0 0 6 901 0 2 0 0 0 0 0 0)
+    ∷ refusal (with 71 (held HandedOver 0 1)) (event 3 1 0 0 0) (answer 12 noCall 0 0 0 0 0 0 0 0 0 0 0 0)
+    ∷ refusal (with 71 (held HandedOver 0 1)) (pickrequ 901) (answer 12 noCall 0 0 6 901 0 2 0 0 0 0 0 0)
     ∷ []
 
 -- the step from the edge's table is the edge's answer and table

@@ -1,5 +1,5 @@
--- What is promised of every event at every table, over the machine's definition: one page of statements. Each is proved in
--- `proofs/Promises.antt` under the name that stands beside it here.
+-- What is promised of every event at every table, over the machine's definition: one page of statements. Each is proved under the name
+-- that stands beside it here, in `proofs/`: Promises, Pickers (Q-1), Taken (Q-3) and Small.
 -- Assumes nothing.
 use mathlib.Core.Path.{_≡_}
 use mathlib.Core.Logic.{_⊎_}
@@ -27,6 +27,10 @@ use Rattle.events.specs.declared.rule.Rule.the-variants.{Start, On, Unknown}
 use Rattle.events.specs.declared.rule.Signal.the-variants.{LocalPickup, PickRequest, PickupResult, PickupError, ErrorInRelease, Release, Answered, Expiry}
 use Rattle.events.specs.declared.message.Sent.{Sent}
 use Rattle.events.specs.Rule.{ruleOf}
+use Rattle.events.specs.declared.message.Message.the-variants.{PickError}
+use Rattle.events.specs.declared.message.ErrorValue.the-variants.{CallAlreadyPickedUp}
+use Rattle.events.specs.Taken.{pickupNumber, isTaken}
+use Rattle.events.specs.Answers.{saying}
 use Rattle.events.specs.Reply.{replies, RepliesOnce}
 use Rattle.events.specs.Sought.{isTimer}
 use Rattle.step.specs.Step.{stepOf}
@@ -194,6 +198,18 @@ pub data Cause (t : Table) (e : Event) : Type 0 where
 -- `replies-have-cause`: none goes out otherwise
 abbrev pub RepliesHaveCause : Type 0
 RepliesHaveCause = (t : Table) (e : Event) → Full t → (replies (stepOf t e .answer .first) (stepOf t e .answer .second) ≡ 0 → ⊥) → Cause t e
+
+-- ---- why a call is not to be had (document 02, Q-3)
+
+-- `tells-why`: a local pickup and a pickrequ that name a held call have the number of its state
+abbrev pub TellsWhy : Type 0
+TellsWhy = (t : Table) (e : Event) → Full t → isSound t ≡ true → (e .kind ≡ 3) ⊎ (e .kind ≡ 4) → e .choice ≡ 0
+    → (j : ℕ) → j < 96 → holds (e .call) (recordAt t j) ≡ true → stepOf t e .answer .number ≡ pickupNumber (recordAt t j .state)
+
+-- `taken-answer`: where one of the three refuses a pickrequ, it has message 6, its connection and error 2, and zeros everywhere else but its number
+abbrev pub TakenAnswer : Type 0
+TakenAnswer = (t : Table) (e : Event) → Full t → e .kind ≡ 4 → isTaken (stepOf t e .answer .number) ≡ true
+    → stepOf t e .answer ≡ saying (stepOf t e .answer .number) (PickError (e .connection) CallAlreadyPickedUp)
 
 -- ---- how large an answer's numbers are
 

@@ -1,4 +1,4 @@
-//! One event, one answer ("Events" and "Refusal numbers", and request Q-1).
+//! One event, one answer ("Events" and "Refusal numbers", and requests ).
 
 use crate::table::{refusal, Call, Connection, Invoke, Place, Record, Side, State, Table};
 
@@ -78,12 +78,12 @@ fn refused(event: &Event, number: u8) -> Answer {
         (1, refusal::CALL_PRESENT | refusal::NO_FREE_PLACE) => {
             Message { number: MessageNumber::CpSetupError, error: ErrorNumber::Undefined, ..Message::default() }
         }
-        (4, refusal::CHOICE_OR_TIMER | refusal::CALL_ABSENT | refusal::NOTHING_WAITS | refusal::PICKED_UP) => {
-            let error = match number {
-                refusal::PICKED_UP => ErrorNumber::CallAlreadyPickedUp,
-                _ => ErrorNumber::Undefined,
-            };
-            pickrequ_error(event.connection, error)
+        (4, refusal::CHOICE_OR_TIMER | refusal::CALL_ABSENT | refusal::NOTHING_WAITS) => {
+            pickrequ_error(event.connection, ErrorNumber::Undefined)
+        }
+        // Why the call is taken is told by the number alone; the wire has one error for all three.
+        (4, refusal::PICKUP_REQUESTED | refusal::REMOTE_PICKUP_REQUESTED | refusal::HANDED_OVER) => {
+            pickrequ_error(event.connection, ErrorNumber::CallAlreadyPickedUp)
         }
         _ => Message::default(),
     };
@@ -160,7 +160,7 @@ fn enter(table: &mut Table, event: &Event, side: Side, message: MessageNumber) -
     Ok(hold(table, index, after, message))
 }
 
-/// Kinds 3 and 4.
+/// Kinds 3 and 4. A call that does not wait can only have been asked for by name.
 fn pick_up(table: &mut Table, event: &Event) -> Result<Answer, u8> {
     let lowest_waiting = |side: Side| table.lowest(side, side.waiting()).ok_or(refusal::NOTHING_WAITS);
     let index = match event.choice {
@@ -170,8 +170,11 @@ fn pick_up(table: &mut Table, event: &Event) -> Result<Answer, u8> {
         _ => return Err(refusal::CHOICE_OR_TIMER),
     };
     let record = table.records[index];
-    if record.state != Side::of(index).waiting() {
-        return Err(refusal::PICKED_UP);
+    match record.state {
+        State::CpickupRequested => return Err(refusal::PICKUP_REQUESTED),
+        State::CpickupRemoteRequested => return Err(refusal::REMOTE_PICKUP_REQUESTED),
+        State::HandedOver => return Err(refusal::HANDED_OVER),
+        State::Free | State::CpWaitForPickup | State::WaitForPickup => {}
     }
     let count = Invoke(record.count.0.wrapping_add(1));
     let (state, connection, message) = match event.kind {

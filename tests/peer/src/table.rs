@@ -1,6 +1,6 @@
 //! Places, records and the table ("Places and records").
 
-/// The numbers of "Refusal numbers". 26 is missing: no answer carries it.
+/// The numbers of "Refusal numbers" and of request Q-3. 26 is missing: no answer carries it.
 pub mod refusal {
     pub const KIND: u8 = 1;
     pub const CHOICE_OR_TIMER: u8 = 2;
@@ -8,10 +8,12 @@ pub mod refusal {
     pub const NO_FREE_PLACE: u8 = 4;
     pub const CALL_ABSENT: u8 = 5;
     pub const NOTHING_WAITS: u8 = 6;
-    pub const PICKED_UP: u8 = 7;
+    pub const PICKUP_REQUESTED: u8 = 7;
     pub const STATE: u8 = 8;
     pub const INVOKE: u8 = 9;
     pub const TIMER_STOPPED: u8 = 10;
+    pub const REMOTE_PICKUP_REQUESTED: u8 = 11;
+    pub const HANDED_OVER: u8 = 12;
     pub const LINE_LENGTH: u8 = 21;
     pub const FIELD_COUNT: u8 = 22;
     pub const NUMBER_FIELD: u8 = 23;

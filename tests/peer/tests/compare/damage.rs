@@ -75,6 +75,12 @@ pub fn systematic(event: &Event) -> Vec<Vec<u8>> {
     all
 }
 
+/// Lines of each length, and some far too long, that have nothing to do with an event.
+pub fn of_each_length(rng: &mut Rng) -> Vec<Vec<u8>> {
+    let lengths = (0..=70).chain([1_000, 65_600]);
+    lengths.flat_map(|length| [(0..length).map(|_| rng.octet()).collect(), vec![b'\t'; length]]).collect()
+}
+
 /// One random damage, or two.
 pub fn random(rng: &mut Rng, event: &Event) -> Vec<u8> {
     const ALPHABET: &[u8] = b"0123456789abcdef\t\t\t\t";

@@ -1,4 +1,5 @@
-//! Both sides of the C entry on equal buffers: whatever octet differs afterwards ends the run.
+//! Both sides of the C entry on equal buffers: whatever octet differs afterwards ends the run, and so does another
+//! answer to the query on the line.
 
 use std::ops::Range;
 
@@ -102,7 +103,7 @@ impl Desk {
         self.take(&line[..length], answer_octets)
     }
 
-    /// One step on both sides. Gives the answer.
+    /// The query on the line and one step on both sides. Gives the step's answer.
     pub fn take(&mut self, line: &[u8], answer_octets: usize) -> &[u8] {
         self.step += 1;
         self.image_before.clear();
@@ -112,9 +113,14 @@ impl Desk {
         self.stale_answer.extend((0..answer_octets).map(|at| self.step as u8 ^ (at as u8).wrapping_mul(37)));
         self.answer.set(&self.stale_answer, self.rng.below(16));
 
+        let (library_field, peer_field) =
+            (product::park_bad_field(self.line.library()), peer::bad_field(self.line.peer()));
         let library_count = product::park_step(self.image.library(), self.line.library(), self.answer.library());
         let peer_count = peer::park_step(self.image.peer(), self.line.peer(), self.answer.peer());
 
+        if library_field != peer_field {
+            self.differ(&format!("the library blames field {library_field} of the line, the peer {peer_field}"));
+        }
         if library_count != peer_count {
             self.differ(&format!("the library wrote {library_count} octets, the peer {peer_count}"));
         }
@@ -124,6 +130,7 @@ impl Desk {
             }
         }
         let answer = &self.answer.peer[self.answer.window.clone()][..peer_count];
+        self.tally.note_field(peer_field);
         self.tally.note(&self.image_before, &self.line.peer[self.line.window.clone()], answer);
         answer
     }

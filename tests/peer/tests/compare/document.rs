@@ -1,4 +1,5 @@
-//! What the documents say with numbers, on both sides: "One session in full", "Twelve edges to prove", and request Q-1.
+//! What the documents say with numbers, on both sides: "One session in full", "Twelve edges to prove", and requests Q-1
+//! and Q-3.
 
 use peer::{
     write_image, Call, Connection, Event, Invoke, Place, Record, State, Table, ANSWER_OCTETS, IMAGE_OCTETS,
@@ -30,7 +31,7 @@ const SESSION: [(&str, &str); 5] = [
     ),
 ];
 
-/// The call of the edges and of Q-1. Other places taken hold the calls 101 and up.
+/// The call of the edges and of the requests. Other places taken hold the calls 101 and up.
 const CALL: Call = Call(7);
 
 fn with(records: &[(usize, Record)]) -> Table {
@@ -66,7 +67,7 @@ fn edges() -> Vec<(Table, Event, [u16; 8])> {
         (Table::empty(), Event { kind: 2, ..park(64) }, [0, 65, 2, 0, 0, 0, 0, 0]),
         (one(9, State::CpickupRequested, 1), event(10, 0, 3), [0, 9, 0, 7, 0, 0, 0, 3]),
         (one(9, State::CpickupRemoteRequested, 1), event(6, 1, 0), [0, 9, 1, 6, 0, 1, 0, 4]),
-        (one(9, State::HandedOver, 1), event(4, 0, 0), [7, 0, 0, 6, 0, 2, 0, 0]),
+        (one(9, State::HandedOver, 1), event(4, 0, 0), [12, 0, 0, 6, 0, 2, 0, 0]),
         (one(9, State::CpWaitForPickup, 1), event(7, 1, 0), [0, 9, 0, 0, 0, 0, 0, 1]),
         (one(9, State::CpWaitForPickup, 65_535), event(3, 0, 0), [0, 9, 3, 3, 0, 0, 2, 0]),
         (one(70, State::WaitForPickup, 0), event(10, 0, 3), [10, 0, 0, 0, 0, 0, 0, 0]),
@@ -81,8 +82,7 @@ const NOTHING: Sent = "0\t0\t0\t0";
 const RELEASED: Sent = "7\t0\t0\t0";
 const TOLD: Sent = "6\t65535\t0\t1";
 
-/// Place, its state, and an event that frees it; first message, stopped timers, second message. The count is 1, and in
-/// state 4 the connection 65,535.
+/// Place, its state, and an event that frees it; first message, stopped timers, second message.
 const ENDS: [(usize, State, Freeing, Sent, u8, Sent); 10] = [
     (64, State::CpickupRemoteRequested, (8, 0, 0), TOLD, 5, NOTHING),
     (64, State::CpickupRemoteRequested, (7, 0, 0), TOLD, 5, NOTHING),
@@ -96,6 +96,18 @@ const ENDS: [(usize, State, Freeing, Sent, u8, Sent); 10] = [
     (64, State::HandedOver, (7, 1, 0), NOTHING, 1, NOTHING),
     (64, State::HandedOver, (10, 0, 3), RELEASED, 1, NOTHING),
 ];
+
+/// The states in which a call is taken, each with the refusal of a pickup by name.
+pub const TAKEN: [(State, u8); 3] =
+    [(State::CpickupRequested, 7), (State::CpickupRemoteRequested, 11), (State::HandedOver, 12)];
+/// Both kinds of pickup, with the message of either to a picker on connection 900.
+const REFUSED: [(u8, Sent); 2] = [(3, NOTHING), (4, "6\t900\t0\t2")];
+
+/// The count is 1, and in state 4 the connection 65,535.
+fn held(place: usize, state: State) -> Table {
+    let connection = Connection(if state == State::CpickupRemoteRequested { 65_535 } else { 0 });
+    with(&[(place, Record { state, call: CALL, connection, count: Invoke(1) })])
+}
 
 pub fn run(desk: &mut Desk) {
     desk.begin("document, session", 0);
@@ -113,13 +125,23 @@ pub fn run(desk: &mut Desk) {
     }
     desk.begin("document, request Q-1", 0);
     for (place, state, (kind, invoke, timer), first, stopped, second) in ENDS {
-        let connection = Connection(if state == State::CpickupRemoteRequested { 65_535 } else { 0 });
-        let table = with(&[(place, Record { state, call: CALL, connection, count: Invoke(1) })]);
         let expected = format!("0\t{:032x}\t{place}\t0\t{first}\t0\t{stopped}\t{second}", CALL.0);
-        demand_at(desk, &table, &event(kind, invoke, timer), &expected);
+        demand_at(desk, &held(place, state), &event(kind, invoke, timer), &expected);
     }
-    let (lines, edges, ends) = (SESSION.len(), edges().len(), ENDS.len());
-    println!("document: session of {lines} lines, {edges} edges, {ends} ends of a stay by Q-1");
+    desk.begin("document, request Q-3", 0);
+    for (state, number) in TAKEN {
+        for (kind, message) in REFUSED {
+            let event = Event { connection: Connection(900), ..event(kind, 0, 0) };
+            let expected = format!("{number}\t{:032x}\t0\t0\t{message}\t0\t0\t{NOTHING}", 0);
+            for place in [1, 64, 65, 96] {
+                demand_at(desk, &held(place, state), &event, &expected);
+            }
+        }
+    }
+    let (lines, edges, ends, taken) = (SESSION.len(), edges().len(), ENDS.len(), TAKEN.len());
+    println!(
+        "document: session of {lines} lines, {edges} edges, {ends} ends of a stay by Q-1, {taken} states by Q-3"
+    );
 }
 
 fn demand_at(desk: &mut Desk, table: &Table, event: &Event, expected: &str) {

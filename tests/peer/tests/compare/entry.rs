@@ -1,7 +1,7 @@
-//! `park_step` of the static library against the peer's.
+//! `park_step` of the static library against the peer's, and with each line `park_bad_field`.
 
 use peer::trial::{line_of, sound_table, Follower, Rng};
-use peer::{write_image, Table, ANSWER_OCTETS, IMAGE_OCTETS, RECORD_OCTETS};
+use peer::{write_image, Event, State, Table, ANSWER_OCTETS, IMAGE_OCTETS, RECORD_OCTETS};
 
 use crate::damage;
 use crate::desk::Desk;
@@ -9,6 +9,7 @@ use crate::desk::Desk;
 pub fn run(desk: &mut Desk) {
     part(desk, "following tables", following);
     part(desk, "counts near their wrap", high_counts);
+    part(desk, "pickups of taken calls", taken_calls);
     part(desk, "damaged lines", damaged_lines);
     part(desk, "damaged images", damaged_images);
     part(desk, "short buffers", short_buffers);
@@ -52,6 +53,21 @@ fn high_counts(desk: &mut Desk, name: &'static str) {
     }
 }
 
+/// Asks for each call of a table twice by name, so that one that waits is taken at least the second time.
+fn taken_calls(desk: &mut Desk, name: &'static str) {
+    for seed in 0..100 {
+        let table = sound_table(&mut Rng::new(seed), 96);
+        let mut follower = Follower::new(seed, 96);
+        desk.begin(name, seed);
+        desk.load(&image_of(&table));
+        for record in table.records().iter().filter(|record| record.state != State::Free) {
+            for kind in [[3, 4], [4, 3]][follower.rng.below(2)] {
+                desk.take_event(&Event { kind, call: record.call, choice: 0, ..follower.event(&table) });
+            }
+        }
+    }
+}
+
 fn damaged_lines(desk: &mut Desk, name: &'static str) {
     for seed in 0..30 {
         let mut rng = Rng::new(seed);
@@ -67,6 +83,10 @@ fn damaged_lines(desk: &mut Desk, name: &'static str) {
             let event = follower.event(&desk.table());
             desk.take(&damage::random(&mut rng, &event), ANSWER_OCTETS);
             desk.tally.case("line damaged at random");
+        }
+        for line in damage::of_each_length(&mut rng) {
+            desk.take(&line, ANSWER_OCTETS);
+            desk.tally.case("line of each length");
         }
     }
 }

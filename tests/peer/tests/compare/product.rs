@@ -1,4 +1,4 @@
-//! What is compared with the peer: the static library's one function, and the built program. The benchmark uses
+//! What is compared with the peer: the static library's two functions, and the built program. The benchmark uses
 //! this file too.
 
 use std::path::PathBuf;
@@ -14,6 +14,7 @@ mod library {
             answer: *mut u8,
             answer_len: usize,
         ) -> usize;
+        pub fn park_bad_field(line: *const u8, line_len: usize) -> u8;
     }
 }
 
@@ -23,6 +24,11 @@ pub fn park_step(image: &mut [u8], line: &[u8], answer: &mut [u8]) -> usize {
     unsafe {
         library::park_step(image.as_mut_ptr(), image_len, line.as_ptr(), line_len, answer.as_mut_ptr(), answer_len)
     }
+}
+
+pub fn park_bad_field(line: &[u8]) -> u8 {
+    // SAFETY: a buffer valid for the length that goes with it; an empty one has a pointer too, which is not null.
+    unsafe { library::park_bad_field(line.as_ptr(), line.len()) }
 }
 
 pub fn parkline() -> PathBuf {

@@ -1,9 +1,11 @@
 //! Counts of what has been tried at the C entry, and the demand that nothing was left out.
 
 use std::collections::{BTreeMap, BTreeSet};
+use std::fmt::{Debug, Display};
 
 use peer::{read_line, Event, Table, RECORD_OCTETS};
 
+use crate::document::TAKEN;
 use crate::fail;
 
 #[derive(Default)]
@@ -14,13 +16,20 @@ pub struct Tally {
     values: [BTreeMap<u8, u64>; 3],
     /// Accepted events by side (position or line), state before, kind.
     accepted: BTreeMap<(bool, u8, u8), u64>,
+    /// Refused pickups of a call in the table, asked for by name: side, state before, kind, answer number.
+    taken: BTreeMap<(bool, u8, u8, usize), u64>,
+    /// Lines by the field that is to blame, 0 for none.
+    fields: BTreeMap<u8, u64>,
     cases: BTreeMap<&'static str, u64>,
     /// Answers by their length.
     lengths: BTreeMap<usize, u64>,
 }
 
 /// How many names `Tally::case` is called with.
-const CASES: usize = 34;
+const CASES: usize = 35;
+
+/// The answer numbers up to this one come from the event; those of its line, the image and the buffer begin at 21.
+const LAST_OF_EVENT: usize = 12;
 
 /// The longest line that comes, of the 77 octets that are set aside: the call's 32 digits, two of a place or of a
 /// number, five of one connection or one invoke, a digit of each of the eleven other fields, thirteen tabs and the feed.
@@ -49,6 +58,10 @@ impl Tally {
         self.numbers[0]
     }
 
+    pub fn note_field(&mut self, field: u8) {
+        *self.fields.entry(field).or_default() += 1;
+    }
+
     /// `image` is the one before the step.
     pub fn note(&mut self, image: &[u8], line: &[u8], answer: &[u8]) {
         self.steps += 1;
@@ -57,7 +70,7 @@ impl Tally {
         let field = |index| text.trim_end().split('\t').nth(index).and_then(|field| field.parse::<usize>().ok());
         let number = field(0).unwrap_or(26);
         self.numbers[number] += 1;
-        if let (Ok(event), true) = (read_line(line), number <= 10) {
+        if let (Ok(event), true) = (read_line(line), number <= LAST_OF_EVENT) {
             self.note_event(image, &event, number);
             if number == 0 {
                 let index = field(2).expect("a place") - 1;
@@ -76,8 +89,8 @@ impl Tally {
     fn note_event(&mut self, image: &[u8], event: &Event, number: usize) {
         *self.values[0].entry(event.kind).or_default() += 1;
         let named = event.call.0.to_be_bytes();
-        let live = || image.chunks(RECORD_OCTETS).filter(|record| record[0] != 0);
-        let found = live().find(|record| record[1..17] == named);
+        let live = || image.chunks(RECORD_OCTETS).enumerate().filter(|(_, record)| record[0] != 0);
+        let found = live().find(|(_, record)| record[1..17] == named);
         match event.kind {
             1 | 2 => {
                 let proposed = usize::from(event.place.0);
@@ -92,10 +105,10 @@ impl Tally {
                     _ if image[RECORD_OCTETS * (proposed - 1)] != 0 => "entry proposing another taken place",
                     _ => "entry proposing another free place",
                 });
-                if number == 0 && live().any(|record| record[1..16] == named[..15]) {
+                if number == 0 && live().any(|(_, record)| record[1..16] == named[..15]) {
                     self.case("entry beside a call that differs in the last octet only");
                 }
-                if number == 0 && live().any(|record| record[2..17] == named[1..]) {
+                if number == 0 && live().any(|(_, record)| record[2..17] == named[1..]) {
                     self.case("entry beside a call that differs in the first octet only");
                 }
             }
@@ -106,11 +119,15 @@ impl Tally {
                     (4, 65_535) => self.case("pickrequ of connection 65535"),
                     _ => {}
                 }
+                if let (Some((index, record)), 0, 1..) = (found, event.choice, number) {
+                    let key = (index < Table::POSITIONS, record[0], event.kind, number);
+                    *self.taken.entry(key).or_default() += 1;
+                }
             }
             10 => *self.values[2].entry(event.timer).or_default() += 1,
             _ => {}
         }
-        if let (Some(record), 5..=7) = (found, event.kind) {
+        if let (Some((_, record)), 5..=7) = (found, event.kind) {
             let count = u16::from_be_bytes([record[19], record[20]]);
             let beyond = event.invoke.0.wrapping_sub(count);
             self.case(match beyond {
@@ -135,8 +152,9 @@ impl Tally {
     /// Prints the counts, and fails where something possible never came, or something impossible did.
     pub fn print_and_demand(&self) {
         println!("entry in all: {} events, {} accepted", self.steps, self.done());
-        let numbers = (0..27).zip(self.numbers).filter(|(_, count)| *count > 0);
+        let numbers = (0..).zip(self.numbers).filter(|(_, count)| *count > 0);
         println!("  answer numbers {}", listed(numbers.clone()));
+        println!("  lines by the field to blame {}", listed(self.fields.clone().into_iter()));
         for ((name, last), seen) in [("kinds", 12), ("choices", 4), ("timers", 10)].into_iter().zip(&self.values) {
             let wanted = (0..=last).chain([255]).map(|value| (value, seen.get(&value).copied().unwrap_or(0)));
             let (wanted, all) = (wanted.collect::<Vec<_>>(), seen.values().sum::<u64>());
@@ -154,29 +172,44 @@ impl Tally {
         if *longest != LONGEST {
             fail(&format!("the longest answer should have {LONGEST} octets"));
         }
-        let expected: BTreeSet<_> = ACCEPTED
-            .iter()
-            .flat_map(|&(position, state, kinds)| kinds.iter().map(move |&kind| (position, state, kind)))
-            .collect();
-        let seen: BTreeSet<_> = self.accepted.keys().copied().collect();
-        let rarest = self.accepted.values().min().copied().unwrap_or(0);
-        println!(
-            "  accepted sorts (side, state, kind): {} of {}, the rarest {rarest} times",
-            seen.len(),
-            expected.len()
-        );
-        if numbers.map(|(number, _)| number).ne((0..=10).chain(21..=26)) {
+        if numbers.map(|(number, _)| number).ne((0..=LAST_OF_EVENT).chain(21..=26)) {
             fail("an answer number never came");
         }
         if self.cases.len() != CASES {
             fail(&format!("{} of the {CASES} listed cases came", self.cases.len()));
         }
-        if seen != expected {
-            fail(&format!("accepted sorts missing or too many: {:?}", seen.symmetric_difference(&expected)));
-        }
+        let accepted = ACCEPTED
+            .iter()
+            .flat_map(|&(position, state, kinds)| kinds.iter().map(move |&kind| (position, state, kind)));
+        demand_sorts("accepted sorts (side, state, kind)", &self.accepted, accepted, 1_000);
+        let taken = [true, false].into_iter().flat_map(|position| {
+            let of_kind = move |kind| TAKEN.map(|(state, number)| (position, state as u8, kind, number.into()));
+            [3, 4].into_iter().flat_map(of_kind)
+        });
+        demand_sorts("taken calls asked for by name (side, state, kind, number)", &self.taken, taken, 500);
+        demand_sorts("fields to blame, or none", &self.fields, 0..=7, 3_000);
     }
 }
 
-fn listed(counts: impl Iterator<Item = (u8, u64)>) -> String {
+/// Prints how often the rarest sort came, and fails where the sorts are not those expected, or one is too rare.
+fn demand_sorts<S: Copy + Ord + Debug>(
+    name: &str,
+    seen: &BTreeMap<S, u64>,
+    expected: impl Iterator<Item = S>,
+    least: u64,
+) {
+    let (sorts, expected): (BTreeSet<_>, BTreeSet<_>) = (seen.keys().copied().collect(), expected.collect());
+    let rarest = seen.values().min().copied().unwrap_or(0);
+    println!("  {name}: {} of {}, the rarest {rarest} times", sorts.len(), expected.len());
+    let wrong: Vec<_> = sorts.symmetric_difference(&expected).collect();
+    if !wrong.is_empty() {
+        fail(&format!("{name}: missing or too many {wrong:?}"));
+    }
+    if rarest < least {
+        fail(&format!("{name}: one came less than {least} times"));
+    }
+}
+
+fn listed(counts: impl Iterator<Item = (impl Display, u64)>) -> String {
     counts.map(|(value, count)| format!("{value}:{count}")).collect::<Vec<_>>().join(" ")
 }

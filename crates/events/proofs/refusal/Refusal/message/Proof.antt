@@ -50,7 +50,7 @@ enum-told-11 : tie.Need-enum-told-11
 enum-told-11 c = search needs
 
 returns : tie.Need-returns
-returns c = search needs
+returns c = rw (c .before .before .before .before .k .given .1, c .before .enum-told .given .1) (c .of-park .ensures)
 
 returns-2 : tie.Need-returns-2
 returns-2 c = search needs

@@ -1,0 +1,33 @@
+-- The numbers of faults: at most 24, and 0 only where there is none.
+-- Assumes nothing.
+use mathlib.Core.Path.{_≡_, refl}
+use mathlib.Core.Bool.{Bool, true, false, cond}
+use Prim.Native.Nat.{ℕ, _≤_, _<_}
+use native.Mathlib.Omega.{arith}
+use lib.Dec.{eqb, lit≤}
+use Rattle.lines.specs.declared.Fault.{Fault}
+use Rattle.lines.specs.declared.Fault.the-variants.{NoFault, TooLong, NotSeven, BadField}
+use Rattle.lines.specs.EventLine.{faultNumber}
+
+-- a bad field has 23 or 24
+pub bad-number : (P : ℕ → Type 0) (i : ℕ) → P 23 → P 24 → P (faultNumber (BadField i))
+bad-number P i p q = by (eqb i 2)
+  where
+    by : (b : Bool) → P (cond b 24 23)
+    by true = q
+    by false = p
+
+pub fault-most : (f : Fault) → faultNumber f ≤ 24
+fault-most NoFault = lit≤ tt
+fault-most TooLong = lit≤ tt
+fault-most NotSeven = lit≤ tt
+fault-most (BadField i) = bad-number (λ n. n ≤ 24) i (lit≤ tt) (lit≤ tt)
+
+pub bad-above : (i : ℕ) → 0 < faultNumber (BadField i)
+bad-above i = bad-number (λ n. 0 < n) i (omega arith) (omega arith)
+
+pub no-fault : (f : Fault) → faultNumber f ≡ 0 → f ≡ NoFault
+no-fault NoFault h = refl
+no-fault TooLong h = absurd (omega arith)
+no-fault NotSeven h = absurd (omega arith)
+no-fault (BadField i) h = absurd (omega (arith, bad-above i))

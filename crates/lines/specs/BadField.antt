@@ -1,0 +1,33 @@
+-- How the first bad field of a line stands to its reading (document 02, Q-3). Both are taken from one walk through the line (`reading`); this
+-- says what the field that is named has to do with the fields as they stand in the line, and with the refusal.
+-- Assumes nothing.
+use mathlib.Core.Path.{_≡_}
+use mathlib.Core.Bool.{Bool, true, false, cond, _||_}
+use mathlib.Core.List.{List}
+use Prim.Native.Nat.{ℕ, _≤_, _<_}
+use lib.Dec.{eqb, ltb}
+use Rattle.lines.specs.declared.numbers.Number.{Number}
+use Rattle.lines.specs.declared.numbers.Number.the-variants.{Is, Bad}
+use Rattle.lines.specs.EventLine.{numberIn, callIn, readLine, badField}
+
+abbrev pub isNumber : Number → Bool
+isNumber (Is v) = true
+isNumber Bad = false
+
+-- is field i of the line good: the second as a call, any other as a number
+abbrev pub isGood : ℕ → List ℕ → Bool
+isGood i s = cond (eqb i 2) (callIn i s .good) (isNumber (numberIn i s))
+
+-- `bad-field-stands`
+pub record BadFieldStands (s : List ℕ) : Type 0 where
+  -- it is above 0 exactly when reading refuses by 23 or 24, and 0 exactly when the line reads or 21 or 22 refuses it
+  pub above-0 : ltb 0 (badField s) ≡ (eqb (readLine s .number) 23 || eqb (readLine s .number) 24)
+  pub at-0 : eqb (badField s) 0 ≡ (eqb (readLine s .number) 0 || (eqb (readLine s .number) 21 || eqb (readLine s .number) 22))
+  -- it is 2 exactly with 24
+  pub call : eqb (badField s) 2 ≡ eqb (readLine s .number) 24
+  -- it is one of the seven; the field that it names is bad, and all before it are good
+  pub one-of-seven : badField s ≤ 7
+  pub bad : 0 < badField s → isGood (badField s) s ≡ false
+  pub good-before : (j : ℕ) → 0 < j → j < badField s → isGood j s ≡ true
+  -- in a line that reads, all seven are good
+  pub all-good : readLine s .number ≡ 0 → (j : ℕ) → 0 < j → j ≤ 7 → isGood j s ≡ true
