@@ -15,7 +15,6 @@ use Rattle.events.specs.declared.rule.Signal.the-variants.{LocalPickup, 
 use Rattle.events.specs.declared.message.Message.{Message}
 use Rattle.events.specs.declared.message.Message.the-variants.{NoMessage, ParkError, PickError}
 use Rattle.events.specs.declared.message.ErrorValue.{ErrorValue}
-use Rattle.events.specs.declared.message.ErrorValue.the-variants.{Undefined, CallAlreadyPickedUp}
 use Rattle.events.specs.declared.refusal.Refusal.{Refusal}
 use Rattle.events.specs.declared.refusal.Refusal.the-variants.{UnknownKind, ChoiceOrTimer, CallHeld, SideFull, CallNotHeld, NothingWaits, PickupHere, PickupElsewhere, CallHandedOver, StateUnfit, NotOutstanding, TimerNotRunning, TableUnsound}
 use Rattle.events.specs.Refusal.{refusalNumber, parkRefused, pickRequestRefused, refusalMessage}
@@ -72,14 +71,14 @@ module _ (c : Connection) where
 
   tells-picker : (w : Refusal) → Tells c (On PickRequest) (pickRequestRefused w c)
   tells-picker UnknownKind = nothing
-  tells-picker ChoiceOrTimer = picker Undefined
+  tells-picker ChoiceOrTimer = picker _
   tells-picker CallHeld = nothing
   tells-picker SideFull = nothing
-  tells-picker CallNotHeld = picker Undefined
-  tells-picker NothingWaits = picker Undefined
-  tells-picker PickupHere = picker CallAlreadyPickedUp
-  tells-picker PickupElsewhere = picker CallAlreadyPickedUp
-  tells-picker CallHandedOver = picker CallAlreadyPickedUp
+  tells-picker CallNotHeld = picker _
+  tells-picker NothingWaits = picker _
+  tells-picker PickupHere = picker _
+  tells-picker PickupElsewhere = picker _
+  tells-picker CallHandedOver = picker _
   tells-picker StateUnfit = nothing
   tells-picker NotOutstanding = nothing
   tells-picker TimerNotRunning = nothing
