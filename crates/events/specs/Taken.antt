@@ -25,7 +25,8 @@ outcomeNumber (Refused w) = refusalNumber w
 outcomeNumber (Freed first second) = 0
 outcomeNumber (Becomes s n m) = 0
 
--- "Keep 7 for state 3, and use 11 for state 4 and 12 for state 5.": the number of a pickup, by the state of its call. (No call is in a free record.)
+-- "Keep 7 for state 3, and use 11 for state 4 and 12 for state 5.": the number of a pickup, by the state of its call; a call that waits is to be
+-- had. (No call is in a free record.)
 abbrev pub pickupNumber : State → ℕ
 pickupNumber Free = 0
 pickupNumber ParkWaiting = 0
@@ -38,6 +39,7 @@ pickupNumber HandedOver = 12
 abbrev pub PickupNumbered : Type 0
 PickupNumbered = (s : State) (c : Connection) (to : Stage) (n : Invoke) (m : Message) → outcomeNumber (pickedUp (stageBy s c) to n m) ≡ pickupNumber s
 
+-- one of the three numbers
 abbrev pub isTaken : ℕ → Bool
 isTaken number = eqb number 7 || (eqb number 11 || eqb number 12)
 

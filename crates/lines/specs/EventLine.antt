@@ -21,7 +21,8 @@ use Rattle.lines.specs.Calls.{callOf, hexOf}
 
 -- ---- the fields
 
--- "Ranges: kind, choice, timer 0 to 255; place, connection, invoke 0 to 65,535.": the largest value of field i
+-- "Ranges: kind, choice, timer 0 to 255; place, connection, invoke 0 to 65,535.": the largest value of field i. (The second is
+-- the call, and no number is read there.)
 abbrev pub most : ℕ → ℕ
 most i = cond (eqb i 1 || eqb i 4 || eqb i 7) 255 65535
 
