@@ -1,8 +1,12 @@
 /*
  * park.h: the park and pickup table of a voice appliance, one event at a time.
  *
- * A table of 96 places holds parked and alerting calls. The caller keeps the table as an image of 2,016 octets; an image of all zeros is
+ * A table of 96 places holds parked and alerting calls. The caller keeps the table as an image of 2,112 octets; an image of all zeros is
  * the empty table. An event comes as one line of text, and is answered by one line of text.
+ *
+ * Each place has 22 octets, place 1 first: state, call (16), connection (2), count (2), the last two high octet first, and rank. The calls
+ * of a side, park positions 1 to 64 or lines 65 to 96, are ranked from 1 in the order in which they came; a free place has rank 0. A pickup
+ * with choice 1 or 2 takes the call that came first of those that wait on that side.
  *
  * Event line, without its line feed, at most 62 octets, seven fields parted by tabs:
  *     kind  call  place  choice  connection  invoke  timer
@@ -15,7 +19,7 @@
  *
  * An answer's number is 0 where the event is done. Then the image is that of the table after it. Any other number is a refusal, and the
  * image stays as it was, octet for octet. In the order in which they are looked for:
- *     25  the image has not 2,016 octets, or its table is not sound
+ *     25  the image has not 2,112 octets, or its table is not sound
  *     21  the line has more than 62 octets
  *     22  not exactly seven fields
  *     23  the first bad field is a number
@@ -45,7 +49,7 @@
 extern "C" {
 #endif
 
-#define PARK_IMAGE_OCTETS 2016
+#define PARK_IMAGE_OCTETS 2112
 
 /*
  * What to set aside for an answer line, its line feed included. It is proved that no answer is longer, whatever the image and the line hold:

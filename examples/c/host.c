@@ -13,7 +13,7 @@
 #include <string.h>
 
 #define PLACES 96
-#define RECORD_OCTETS 21
+#define RECORD_OCTETS 22
 #define CALL_DIGITS 32
 
 enum kind { PARK = 1, ALERT, PICKUP, PICKREQU, RESULT, ERROR, RELEASE_ERROR, RELEASE, ANSWERED, EXPIRY };
@@ -236,7 +236,7 @@ static void run_clocks(unsigned long before)
     }
 }
 
-/* What the table holds, read from its image: per place state, call, connection and count. */
+/* What the table holds, read from its image: per place state, call, connection, count and rank. */
 static void show(void)
 {
     unsigned place, i, occupied = 0;
@@ -246,7 +246,8 @@ static void show(void)
         occupied++;
         printf("    place %u: state %u %s, call ", place, record[0], state_names[record[0]]);
         for (i = 1; i <= 16; i++) printf("%02x", record[i]);
-        printf(", connection %u, count %u\n", record[17] * 256u + record[18], record[19] * 256u + record[20]);
+        printf(", connection %u, count %u, rank %u\n", record[17] * 256u + record[18], record[19] * 256u + record[20],
+               record[21]);
     }
     if (occupied == 0) printf("    the table is empty\n");
 }

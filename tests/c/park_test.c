@@ -1,7 +1,7 @@
 /*
- * park_step and park_bad_field from C: the session of the scope paper, what a picker is told, why a call is taken, every refusal that only
- * the entry can give, the field to blame, and what is left in each buffer. The expected lines are the paper's own, or follow from a sentence of it or of a change request that stands beside them. Each
- * buffer is framed by guard octets.
+ * park_step and park_bad_field from C: the session of the scope paper, what a picker is told, why a call is taken, who is served first, every
+ * refusal that only the entry can give, the field to blame, and what is left in each buffer. The expected lines are the paper's own, or follow
+ * from a sentence of it or of a change request that stands beside them. Each buffer is framed by guard octets.
  */
 #include "park.h"
 
@@ -82,6 +82,10 @@ static void text(const char *s) { set(&line, s, strlen(s)); }
 
 #define ZEROS "00000000000000000000000000000000"
 #define ONE "00000000000000000000000000000001"
+#define TWO "00000000000000000000000000000002"
+#define THREE "00000000000000000000000000000003"
+#define FOUR "00000000000000000000000000000004"
+#define NEXT_POSITION "4\t" ZEROS "\t0\t1\t901\t0\t0"
 #define PARK_17 "1\t" ONE "\t17\t0\t0\t0\t0"
 #define RELEASE_WITH_ERROR(invoke) "7\t" ONE "\t0\t0\t0\t" invoke "\t0"
 #define RELEASE "8\t" ONE "\t0\t0\t0\t0\t0"
@@ -95,8 +99,8 @@ static void text(const char *s) { set(&line, s, strlen(s)); }
 #define TAKEN_901 "\t" ZEROS "\t0\t0\t6\t901\t0\t2\t0\t0" NO_SECOND
 
 /*
- * The record of call ONE: "per place 21 octets, place 1 first: state, call, connection, count, the last two high octet first". In state 4
- * the connection is 900.
+ * The record of call ONE: "per place" state, call, connection, count, "the last two high octet first", and after Q-4 "one octet per place,
+ * after the count": its rank, which is 1 where no other call is held. In state 4 the connection is 900.
  */
 static void put_record(uint8_t *at, uint8_t state, uint8_t count)
 {
@@ -104,6 +108,7 @@ static void put_record(uint8_t *at, uint8_t state, uint8_t count)
     at[16] = state != 0;
     if (state == 4) at[17] = 900 / 256, at[18] = 900 % 256;
     at[20] = count;
+    at[21] = state != 0;
 }
 
 /* "One session in full" */
@@ -131,7 +136,7 @@ static void session(void)
         uint8_t want[PARK_IMAGE_OCTETS] = {0};
         text(lines[i]);
         answers(says[i], i != 3);
-        put_record(want + 16 * 21, states[i], counts[i]);
+        put_record(want + 16 * 22, states[i], counts[i]);
         expect(memcmp(start(&image), want, sizeof want) == 0, "the image of the table after the event");
     }
 }
@@ -160,7 +165,7 @@ static void short_answers(void)
     expect(call() == 0, "26 comes before 25 and 22");
 }
 
-/* 25: "image not 2,016 octets, or table not sound"; before the line is looked at */
+/* 25: "image not" 2,112 octets, as Q-4 has it, "or table not sound"; before the line is looked at */
 static void refused_image(void)
 {
     text(PARK_17);
@@ -169,7 +174,7 @@ static void refused_image(void)
     answers(ONLY("25"), 0);
 }
 
-static uint8_t *record(int place) { return start(&image) + (place - 1) * 21; }
+static uint8_t *record(int place) { return start(&image) + (place - 1) * 22; }
 
 /*
  * Q-1: "a release (kind 8, and kind 7 taken as 8) in state 4 sends message 6 with error 1, and a T3 expiry in state 4 sends message 7 and
@@ -261,12 +266,72 @@ static void taken(void)
         }
 }
 
+/*
+ * Q-4: "Branches find it unfair that position 1 is always served before position 40. With choice 1 or 2, take the waiting call that came first
+ * on its side. Each record keeps its rank among the occupied places of its side, from 1; when a place is freed, higher ranks on that side
+ * drop by one. A call sent back to waiting keeps its rank."
+ */
+static void longest_waiting_first(void)
+{
+    static const struct {
+        const char *event, *says;
+        uint8_t ranks[4]; /* of positions 40, 1 and 2 and of line 96, after the event */
+    } steps[] = {
+        {"1\t" ONE "\t40\t0\t0\t0\t0", "0\t" ONE "\t40\t1\t1\t0\t0\t0\t1\t0" NO_SECOND, {1, 0, 0, 0}},
+        {"1\t" TWO "\t1\t0\t0\t0\t0", "0\t" TWO "\t1\t1\t1\t0\t0\t0\t1\t0" NO_SECOND, {1, 2, 0, 0}},
+        {"2\t" FOUR "\t96\t0\t0\t0\t0", "0\t" FOUR "\t96\t2\t0\t0\t0\t0\t0\t0" NO_SECOND, {1, 2, 0, 1}},
+        {"1\t" THREE "\t2\t0\t0\t0\t0", "0\t" THREE "\t2\t1\t1\t0\t0\t0\t1\t0" NO_SECOND, {1, 2, 3, 1}},
+        /* position 40 before position 1, and again after it was sent back */
+        {NEXT_POSITION, "0\t" ONE "\t40\t4\t4\t0\t1\t0\t4\t0" NO_SECOND, {1, 2, 3, 1}},
+        {"6\t" ONE "\t0\t0\t0\t1\t0", "0\t" ONE "\t40\t1\t6\t901\t0\t1\t0\t4" NO_SECOND, {1, 2, 3, 1}},
+        {NEXT_POSITION, "0\t" ONE "\t40\t4\t4\t0\t2\t0\t4\t0" NO_SECOND, {1, 2, 3, 1}},
+        /* one that is asked for does not wait: position 1 is next */
+        {NEXT_POSITION, "0\t" TWO "\t1\t4\t4\t0\t1\t0\t4\t0" NO_SECOND, {1, 2, 3, 1}},
+        /* it is freed: only what came after it, on its side, moves up */
+        {"8\t" TWO "\t0\t0\t0\t0\t0", "0\t" TWO "\t1\t0\t6\t901\t0\t1\t0\t5" NO_SECOND, {1, 0, 2, 1}},
+        /* parked again at position 1, it is the last */
+        {"1\t" TWO "\t1\t0\t0\t0\t0", "0\t" TWO "\t1\t1\t1\t0\t0\t0\t1\t0" NO_SECOND, {1, 3, 2, 1}},
+        {NEXT_POSITION, "0\t" THREE "\t2\t4\t4\t0\t1\t0\t4\t0" NO_SECOND, {1, 3, 2, 1}},
+        {"8\t" FOUR "\t0\t0\t0\t0\t0", "0\t" FOUR "\t96\t0\t0\t0\t0\t0\t0\t0" NO_SECOND, {1, 3, 2, 0}},
+        {"8\t" ONE "\t0\t0\t0\t0\t0", "0\t" ONE "\t40\t0\t6\t901\t0\t1\t0\t5" NO_SECOND, {0, 2, 1, 0}},
+    };
+    static const int places[] = {40, 1, 2, 96};
+    size_t i, p;
+    clear(&image, 0, PARK_IMAGE_OCTETS);
+    for (i = 0; i < sizeof steps / sizeof *steps; i++) {
+        text(steps[i].event);
+        answers(steps[i].says, 1);
+        for (p = 0; p < 4; p++) expect(record(places[p])[21] == steps[i].ranks[p], "the ranks after the event");
+    }
+}
+
+/* Q-4: "The ranks of a side with n calls are exactly 1 to n, a free place has 0, and a table otherwise is unsound." */
+static void bad_ranks(void)
+{
+    static const uint8_t bad[][4] = {
+        {0, 1, 2, 1}, {1, 2, 4, 1}, {1, 1, 2, 1}, {2, 2, 3, 1}, {2, 3, 4, 1}, {1, 3, 3, 1}, {1, 2, 255, 1}, {3, 2, 0, 1}, {1, 2, 3, 0}, {1, 2, 3, 2}, {1, 2, 3, 4},
+    };
+    static const uint8_t good[][4] = {{1, 2, 3, 1}, {3, 2, 1, 1}, {2, 3, 1, 1}};
+    static const int places[] = {40, 1, 64, 65};
+    size_t i, p, set_of;
+    for (set_of = 0; set_of < 2; set_of++)
+        for (i = 0; i < (set_of ? sizeof good / sizeof *good : sizeof bad / sizeof *bad); i++) {
+            clear(&image, 0, PARK_IMAGE_OCTETS);
+            for (p = 0; p < 4; p++) {
+                record(places[p])[0] = 3, record(places[p])[1] = (uint8_t)(p + 1);
+                record(places[p])[21] = set_of ? good[i][p] : bad[i][p];
+            }
+            if (!set_of) refused_image();
+            else text("8\t" ZEROS "\t0\t0\t0\t0\t0"), answers(ONLY("5"), 0);
+        }
+}
+
 static void bad_images(void)
 {
     size_t len;
     int place, octet, state;
     for (len = 0; len <= 64; len++) clear(&image, 0, len), refused_image();
-    for (len = PARK_IMAGE_OCTETS - 22; len <= PARK_IMAGE_OCTETS + 22; len++)
+    for (len = PARK_IMAGE_OCTETS - 96; len <= PARK_IMAGE_OCTETS + 96; len++)
         if (len != PARK_IMAGE_OCTETS) clear(&image, 0, len), refused_image();
     clear(&image, 0, 2 * PARK_IMAGE_OCTETS);
     refused_image();
@@ -274,14 +339,14 @@ static void bad_images(void)
         /* "park positions have state 0, 1, 3, 4 or 5 and lines 0, 2, 3, 4 or 5"; a state above 5 is none */
         for (state = 6; state < 256; state += 1 + (place != 1 && place != 96) * 50) {
             clear(&image, 0, PARK_IMAGE_OCTETS);
-            record(place)[0] = (uint8_t)state;
+            record(place)[0] = (uint8_t)state, record(place)[21] = 1;
             refused_image();
         }
         clear(&image, 0, PARK_IMAGE_OCTETS);
-        record(place)[0] = place <= 64 ? 2 : 1;
+        record(place)[0] = place <= 64 ? 2 : 1, record(place)[21] = 1;
         refused_image();
-        /* "a free record is all zeros" */
-        for (octet = 1; octet <= 20; octet++) {
+        /* "a free record is all zeros", and "a free place has 0" */
+        for (octet = 1; octet <= 21; octet++) {
             clear(&image, 0, PARK_IMAGE_OCTETS);
             record(place)[octet] = 1;
             refused_image();
@@ -290,7 +355,7 @@ static void bad_images(void)
         for (state = 1; state <= 5; state++) {
             if (state == 4 || state == (place <= 64 ? 2 : 1)) continue;
             clear(&image, 0, PARK_IMAGE_OCTETS);
-            record(place)[0] = (uint8_t)state;
+            record(place)[0] = (uint8_t)state, record(place)[21] = 1;
             record(place)[17] = 1;
             refused_image();
             record(place)[17] = 0;
@@ -301,8 +366,8 @@ static void bad_images(void)
         if (place < 96) {
             int other = place == 95 ? 96 : place + 1 + place % (96 - place);
             clear(&image, 0, PARK_IMAGE_OCTETS);
-            record(place)[0] = 3, record(place)[5] = 7;
-            record(other)[0] = 5, record(other)[5] = 7;
+            record(place)[0] = 3, record(place)[5] = 7, record(place)[21] = 1;
+            record(other)[0] = 5, record(other)[5] = 7, record(other)[21] = (uint8_t)(1 + ((place <= 64) == (other <= 64)));
             refused_image();
             /* two calls that differ in the last octet, or in the first, are two calls */
             record(other)[16] = 1;
@@ -363,7 +428,7 @@ static void bad_lines(void)
     refused_line(ONLY("1"), 0);
 }
 
-/* An accepted event changes the octets of its own place and no others. */
+/* A park changes the octets of its own place and no others. */
 static void one_place(void)
 {
     int place;
@@ -378,8 +443,9 @@ static void one_place(void)
         clear(&answer, 0, PARK_ANSWER_OCTETS);
         expect(call() > 0 && start(&answer)[0] == '0', "a park is done while there is room");
         for (i = 0; i < PARK_IMAGE_OCTETS; i++)
-            if (i / 21 != (size_t)place - 1) expect(start(&image)[i] == start(&before)[i], "the other places stay");
+            if (i / 22 != (size_t)place - 1) expect(start(&image)[i] == start(&before)[i], "the other places stay");
         expect(record(place)[0] == 1, "the lowest free position");
+        expect(record(place)[21] == place, "the last of its side");
     }
     text("1\t" ZEROS "\t5\t0\t0\t0\t0");
     /* "a park refused by 3 or 4 has message 2, error 1" */
@@ -393,7 +459,9 @@ int main(void)
     picker_told();
     longest_answers();
     taken();
+    longest_waiting_first();
     bad_images();
+    bad_ranks();
     bad_lines();
     one_place();
     printf("park_test: %lu checks passed\n", checks);

@@ -4,8 +4,8 @@
 use mathlib.Core.Path.{_≡_, refl, sym, ap, ap₂, _∙_}
 use mathlib.Core.Bool.{Bool, true, false, not, _&&_}
 use mathlib.Core.List.{List}
-use Prim.Native.Nat.{ℕ, zero, suc, _+_, _*_, _<_}
-use native.Mathlib.Nat.{zero-add, not-suc-le-zero, le-of-suc-le-suc}
+use Prim.Native.Nat.{ℕ, suc, _+_, _*_, _<_}
+use native.Mathlib.Nat.{zero-add}
 use native.Mathlib.Omega.{arith}
 use lib.Dec.{eqb}
 use lib.ListN.{getD, drop, length-drop}
@@ -19,31 +19,18 @@ use Rattle.table.proofs.Calls.{same-is}
 use Rattle.table.proofs.Facts.{every-make, facts-of-test}
 use Rattle.image.specs.Image.{recordFrom, recordsFrom, tableFrom}
 use Rattle.image.specs.Quick.{stateAt, Busy, callAt, Apart}
-use Rattle.image.proofs.Round.{size-from}
+use Rattle.image.proofs.Round.{size-from, record-at}
 use Rattle.image.proofs.PlaceLaws.{free-octet}
 
--- ---- the record of a place
-
-records-at : (s : List ℕ) (n i k : ℕ) → k < n → getD (recordsFrom s i n) k blank ≡ recordFrom s (i + k * 21)
-unfolding recordsFrom
-records-at s zero i k h = absurd (not-suc-le-zero h)
-records-at s (suc n) i zero h = let here : i ≡ i + 0 * 21 = omega arith in ap (recordFrom s) here
-records-at s (suc n) i (suc k) h =
-    let there : i + 21 + k * 21 ≡ i + suc k * 21 = omega arith in
-    records-at s n (i + 21) k (le-of-suc-le-suc h) ∙ ap (recordFrom s) there
-
-pub record-at : (s : List ℕ) (k : ℕ) → k < 96 → getD (recordsFrom s 0 96) k blank ≡ recordFrom s (k * 21)
-record-at s k h = records-at s 96 0 k h ∙ ap (recordFrom s) (zero-add (k * 21))
-
-call-of : (s : List ℕ) (k : ℕ) → recordFrom s (k * 21) .call ≡ callAt s k
+call-of : (s : List ℕ) (k : ℕ) → recordFrom s (k * 22) .call ≡ callAt s k
 unfolding recordFrom
 call-of s k = refl
 
 -- ---- to the test
 
-unlike-places : (s : List ℕ) (k m : ℕ) → Apart s k m → not (clash (recordFrom s (k * 21)) (recordFrom s (m * 21))) ≡ true
+unlike-places : (s : List ℕ) (k m : ℕ) → Apart s k m → not (clash (recordFrom s (k * 22)) (recordFrom s (m * 22))) ≡ true
 unlike-places s k m apart =
-    rw (free-octet s (k * 21), free-octet s (m * 21), call-of s k, call-of s m)
+    rw (free-octet s (k * 22), free-octet s (m * 22), call-of s k, call-of s m)
     (by (eqb (stateAt s k) 0) (eqb (stateAt s m) 0) (sameCall (callAt s m) (callAt s k)) refl refl refl)
   where
     by : (a b c : Bool) → eqb (stateAt s k) 0 ≡ a → eqb (stateAt s m) 0 ≡ b → sameCall (callAt s m) (callAt s k) ≡ c
@@ -70,7 +57,7 @@ pub one-call-twice : (s : List ℕ) (k m : ℕ) → k < m → m < 96 → Busy s 
 one-call-twice s k m l h bk bm c = by (isSound (tableFrom s)) refl
   where
     busy : (j : ℕ) → j < 96 → Busy s j → isFree (getD (recordsFrom s 0 96) j blank .state) ≡ false
-    busy j i b = ap (λ (r : Record). isFree (r .state)) (record-at s j i) ∙ free-octet s (j * 21) ∙ ne-eqb (stateAt s j) 0 b
+    busy j i b = ap (λ (r : Record). isFree (r .state)) (record-at s j i) ∙ free-octet s (j * 22) ∙ ne-eqb (stateAt s j) 0 b
 
     call : (j : ℕ) → j < 96 → getD (recordsFrom s 0 96) j blank .call ≡ callAt s j
     call j i = ap (λ (r : Record). r .call) (record-at s j i) ∙ call-of s j

@@ -1,10 +1,11 @@
--- What a turn of each loop over the image adds: a state octet looked at, a record read, a record written; the stores of one record;
+-- What a turn of each loop over the image adds: a state octet looked at, a record or a rank read, a place written; the stores of one record;
 -- lengths. By one step of each definition, and the laws of `Runs`.
 -- Assumes nothing.
 use mathlib.Core.Path.{_≡_, refl, sym, ap, ap₂, _∙_}
 use mathlib.Core.Bool.{_&&_}
-use mathlib.Core.List.{List, [], _∷_, _++_, append-assoc, append-nil}
-use Prim.Native.Nat.{ℕ, suc, _+_, _/_, _%_, _<_}
+use mathlib.Core.List.{List, [], _∷_, _++_, append-assoc}
+use Prim.Native.Nat.{ℕ, zero, suc, _+_, _/_, _%_, _<_}
+use native.Mathlib.Nat.{not-suc-le-zero, le-of-suc-le-suc}
 use native.Mathlib.Numerals.{add-one}
 use native.Mathlib.Omega.{arith}
 use lib.Dec.{ltb}
@@ -12,36 +13,38 @@ use lib.ListN.{length, take, getD, set, length-append}
 use lib.Seq.{sets}
 use Rattle.table.specs.declared.Record.{Record}
 use Rattle.table.specs.Places.{stateNumber}
-use Rattle.image.specs.Image.{recordFrom, recordsFrom, statesFit, octetsOf, octetsOfAll, pairOf}
-use Rattle.laws.proofs.Runs.{take-more, sets-append}
+use Rattle.image.specs.Image.{recordFrom, recordsFrom, ranksFrom, statesFit, octetsOf, octetsOfAll, pairOf}
+use Rattle.laws.proofs.Runs.{sets-append}
 
 -- one state octet more
-pub states-step : (s : List ℕ) (i n m : ℕ) → n ≡ suc m → statesFit s i n ≡ (ltb (getD s i 0) 6 && statesFit s (i + 21) m)
+pub states-step : (s : List ℕ) (i n m : ℕ) → n ≡ suc m → statesFit s i n ≡ (ltb (getD s i 0) 6 && statesFit s (i + 22) m)
 unfolding statesFit
 states-step s i n m e = ap (statesFit s i) e
 
 -- one record more, read
-pub records-step : (s : List ℕ) (i n m : ℕ) → n ≡ suc m → recordsFrom s i n ≡ recordFrom s i ∷ recordsFrom s (i + 21) m
+pub records-step : (s : List ℕ) (i n m : ℕ) → n ≡ suc m → recordsFrom s i n ≡ recordFrom s i ∷ recordsFrom s (i + 22) m
 unfolding recordsFrom
 records-step s i n m e = ap (recordsFrom s i) e
 
-pub all-append : (a b : List Record) → octetsOfAll (a ++ b) ≡ octetsOfAll a ++ octetsOfAll b
-unfolding octetsOfAll
-all-append [] b = refl
-all-append (r ∷ a) b =
-    ap (λ (l : List ℕ). octetsOf r ++ l) (all-append a b) ∙ sym (append-assoc (octetsOf r) (octetsOfAll a) (octetsOfAll b))
+-- one rank more, read
+pub ranks-step : (s : List ℕ) (i n m : ℕ) → n ≡ suc m → ranksFrom s i n ≡ getD s (i + 21) 0 ∷ ranksFrom s (i + 22) m
+unfolding ranksFrom
+ranks-step s i n m e = ap (ranksFrom s i) e
 
-all-one : (r : Record) → octetsOfAll (r ∷ []) ≡ octetsOf r
+all-suc : (rs : List Record) (ks : List ℕ) (i : ℕ) (d : Record) → i < length rs → i < length ks
+    → octetsOfAll (take (suc i) rs) (take (suc i) ks) ≡ octetsOfAll (take i rs) (take i ks) ++ (octetsOf (getD rs i d) ++ (getD ks i 0 ∷ []))
 unfolding octetsOfAll
-all-one r = append-nil (octetsOf r)
+all-suc [] ks i d hr hk = absurd (not-suc-le-zero hr)
+all-suc (r ∷ rs) [] i d hr hk = absurd (not-suc-le-zero hk)
+all-suc (r ∷ rs) (k ∷ ks) zero d hr hk = refl
+all-suc (r ∷ rs) (k ∷ ks) (suc i) d hr hk =
+    ap (λ (l : List ℕ). octetsOf r ++ (k ∷ l)) (all-suc rs ks i d (le-of-suc-le-suc hr) (le-of-suc-le-suc hk))
+    ∙ sym (append-assoc (octetsOf r) (k ∷ octetsOfAll (take i rs) (take i ks)) (octetsOf (getD rs i d) ++ (getD ks i 0 ∷ [])))
 
--- one record more, written
-pub all-more : (s : List Record) (i : ℕ) (d : Record) → i < length s
-    → octetsOfAll (take (i + 1) s) ≡ octetsOfAll (take i s) ++ octetsOf (getD s i d)
-all-more s i d h =
-    ap octetsOfAll (take-more s i d h)
-    ∙ all-append (take i s) (getD s i d ∷ [])
-    ∙ ap (λ (l : List ℕ). octetsOfAll (take i s) ++ l) (all-one (getD s i d))
+-- one place more, written
+pub all-more : (rs : List Record) (ks : List ℕ) (i : ℕ) (d : Record) → i < length rs → i < length ks
+    → octetsOfAll (take (i + 1) rs) (take (i + 1) ks) ≡ octetsOfAll (take i rs) (take i ks) ++ (octetsOf (getD rs i d) ++ (getD ks i 0 ∷ []))
+all-more rs ks i d hr hk = ap (λ (n : ℕ). octetsOfAll (take n rs) (take n ks)) (add-one i) ∙ all-suc rs ks i d hr hk
 
 four : (d : List ℕ) (at a b c e : ℕ)
     → set (set (set (set d (at + 17) a) (at + 18) b) (at + 19) c) (at + 20) e ≡ sets d (at + 17) (a ∷ b ∷ c ∷ e ∷ [])

@@ -3,6 +3,8 @@ pub mod Buckets
 pub mod Fills
 pub mod Looks
 pub mod PlaceLaws
+pub mod Puts
 pub mod Round
+pub mod Sides
 pub mod Unique
 pub mod WordLaws

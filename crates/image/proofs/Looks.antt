@@ -14,26 +14,38 @@ use Rattle.table.specs.declared.State.{State}
 use Rattle.table.specs.declared.Record.{Record}
 use Rattle.table.specs.declared.Found.the-variants.{At, Nothing}
 use Rattle.table.specs.Places.{recordAt}
-use Rattle.table.specs.Search.{sameCall, holds, lowest, findCall, lowestIn}
-use Rattle.image.specs.Image.{recordFrom, recordsFrom, tableFrom, placeRead, foundIn, lowestFound}
-use Rattle.image.proofs.Apart.{record-at}
+use Rattle.table.specs.Search.{sameCall, holds, lowest, findCall, lowestIn, total}
+use Rattle.table.specs.Ranks.{nextWaiting}
+use Rattle.image.specs.Image.{recordFrom, recordsFrom, tableFrom, placeRead, foundIn, lowestFound, nextFound}
+use Rattle.image.proofs.Round.{record-at}
 use Rattle.image.proofs.Fills.{records-step}
 use Rattle.image.proofs.PlaceLaws.{free-octet}
 
-pub place-read : (s : List ℕ) (i : ℕ) → length s ≡ 2016 → i < 96 → placeRead i s ≡ recordAt (tableFrom s) i
-place-read s i size h = rw (eq-eqb (length s) 2016 size, lt-ltb i 96 h) (sym (record-at s i h))
+pub place-read : (s : List ℕ) (i : ℕ) → length s ≡ 2112 → i < 96 → placeRead i s ≡ recordAt (tableFrom s) i
+place-read s i size h = rw (eq-eqb (length s) 2112 size, lt-ltb i 96 h) (sym (record-at s i h))
 
 -- place i passes the test, or the places after it decide
 pub lowest-place : (p : ℕ → Record → Bool) (s : List ℕ) (i : ℕ) → i < 96
-    → lowest p i (recordsFrom s (i * 21) (96 - i)) ≡ cond (p i (recordFrom s (i * 21))) (At i) (lowest p (i + 1) (recordsFrom s ((i + 1) * 21) (96 - (i + 1))))
+    → lowest p i (recordsFrom s (i * 22) (96 - i)) ≡ cond (p i (recordFrom s (i * 22))) (At i) (lowest p (i + 1) (recordsFrom s ((i + 1) * 22) (96 - (i + 1))))
 lowest-place p s i h =
-    let next : i * 21 + 21 ≡ (i + 1) * 21 = omega arith in
-    rw (records-step s (i * 21) (96 - i) (96 - (i + 1)) (omega arith), next)
+    let next : i * 22 + 22 ≡ (i + 1) * 22 = omega arith in
+    rw (records-step s (i * 22) (96 - i) (96 - (i + 1)) (omega arith), next)
 
 -- after the last place there is none
-pub lowest-past : (p : ℕ → Record → Bool) (s : List ℕ) (i : ℕ) → 96 ≤ i → lowest p i (recordsFrom s (i * 21) (96 - i)) ≡ Nothing
+pub lowest-past : (p : ℕ → Record → Bool) (s : List ℕ) (i : ℕ) → 96 ≤ i → lowest p i (recordsFrom s (i * 22) (96 - i)) ≡ Nothing
 unfolding recordsFrom
 lowest-past p s i h = let none : 96 - i ≡ 0 = omega arith in rw none
+
+-- the sum of a number of each place, from i on
+pub total-place : (f : ℕ → Record → ℕ) (s : List ℕ) (i : ℕ) → i < 96
+    → total f i (recordsFrom s (i * 22) (96 - i)) ≡ f i (recordFrom s (i * 22)) + total f (i + 1) (recordsFrom s ((i + 1) * 22) (96 - (i + 1)))
+total-place f s i h =
+    let next : i * 22 + 22 ≡ (i + 1) * 22 = omega arith in
+    rw (records-step s (i * 22) (96 - i) (96 - (i + 1)) (omega arith), next)
+
+pub total-past : (f : ℕ → Record → ℕ) (s : List ℕ) (i : ℕ) → 96 ≤ i → total f i (recordsFrom s (i * 22) (96 - i)) ≡ 0
+unfolding recordsFrom
+total-past f s i h = let none : 96 - i ≡ 0 = omega arith in rw none
 
 and-true : (b : Bool) → (b && true) ≡ b
 and-true true = refl
@@ -45,23 +57,26 @@ and-false false = refl
 
 -- a place holds a call by its octets: the call first, and then the state
 module _ (s : List ℕ) (i : ℕ) (call : List ℕ) where
-  by-octets : holds call (recordFrom s (i * 21)) ≡ (not (eqb (getD s (i * 21) 0) 0) && sameCall (take 16 (drop (i * 21 + 1) s)) call)
+  by-octets : holds call (recordFrom s (i * 22)) ≡ (not (eqb (getD s (i * 22) 0) 0) && sameCall (take 16 (drop (i * 22 + 1) s)) call)
   unfolding recordFrom
-  by-octets = rw (free-octet s (i * 21))
+  by-octets = rw (free-octet s (i * 22))
 
-  pub holds-same : sameCall (take 16 (drop (i * 21 + 1) s)) call ≡ true → holds call (recordFrom s (i * 21)) ≡ not (eqb (getD s (i * 21) 0) 0)
-  holds-same h = by-octets ∙ rw h (and-true (not (eqb (getD s (i * 21) 0) 0)))
+  pub holds-same : sameCall (take 16 (drop (i * 22 + 1) s)) call ≡ true → holds call (recordFrom s (i * 22)) ≡ not (eqb (getD s (i * 22) 0) 0)
+  holds-same h = by-octets ∙ rw h (and-true (not (eqb (getD s (i * 22) 0) 0)))
 
-  pub holds-other : sameCall (take 16 (drop (i * 21 + 1) s)) call ≡ false → holds call (recordFrom s (i * 21)) ≡ false
-  holds-other h = by-octets ∙ rw h (and-false (not (eqb (getD s (i * 21) 0) 0)))
+  pub holds-other : sameCall (take 16 (drop (i * 22 + 1) s)) call ≡ false → holds call (recordFrom s (i * 22)) ≡ false
+  holds-other h = by-octets ∙ rw h (and-false (not (eqb (getD s (i * 22) 0) 0)))
 
 -- an image of the right length
-module _ (s : List ℕ) (size : length s ≡ 2016) where
+module _ (s : List ℕ) (size : length s ≡ 2112) where
   pub found-in : (call : List ℕ) → foundIn s call ≡ findCall (tableFrom s) call
-  found-in call = rw (eq-eqb (length s) 2016 size)
+  found-in call = rw (eq-eqb (length s) 2112 size)
 
   pub lowest-found : (a : Side) (u : State) → lowestFound s a u ≡ lowestIn (tableFrom s) a u
-  lowest-found a u = rw (eq-eqb (length s) 2016 size)
+  lowest-found a u = rw (eq-eqb (length s) 2112 size)
+
+  pub next-found : (a : Side) → nextFound s a ≡ nextWaiting (tableFrom s) a
+  next-found a = rw (eq-eqb (length s) 2112 size)
 
 -- a call is all of its sixteen octets
 pub whole-call : (call : List ℕ) → length call ≡ 16 → take 16 (drop 0 call) ≡ call

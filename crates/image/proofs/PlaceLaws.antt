@@ -2,7 +2,7 @@
 -- that of the octet, and the rest by cases of the definition.
 -- Assumes nothing.
 use mathlib.Core.Path.{_≡_, refl, _∙_}
-use mathlib.Core.Bool.{Bool, true, false, cond, _&&_}
+use mathlib.Core.Bool.{Bool, true, false, cond, not, _&&_}
 use mathlib.Core.List.{List, []}
 use Prim.Native.Nat.{ℕ, zero, suc, _+_, _-_, _*_, _<_, _≤_}
 use native.Mathlib.Omega.{arith}
@@ -17,16 +17,17 @@ use Rattle.table.specs.declared.Record.{Record}
 use Rattle.table.specs.Places.{isFree, sideAt}
 use Rattle.table.specs.Search.{every}
 use Rattle.table.specs.Sound.{fitsSide, allZeros, tidyIn, placeSound}
+use Rattle.table.specs.Ranks.{heldOn}
 use Rattle.table.proofs.Facts.{free-fits}
 use Rattle.image.specs.Image.{stateOf, pairAt, recordFrom, recordsFrom, statesFit}
 use Rattle.image.specs.Quick.{stateAt, placeFits}
 use Rattle.image.proofs.Fills.{states-step, records-step}
 use Rattle.image.proofs.Round.{number-back}
 
-position : (i : ℕ) → i < 64 → sideAt i ≡ Position
+pub position : (i : ℕ) → i < 64 → sideAt i ≡ Position
 position i h = rw (lt-ltb i 96 (omega arith), le-ltb (i + 1) 1 (omega arith), lt-ltb (i + 1) 65 (omega arith))
 
-line : (i : ℕ) → 64 ≤ i → i < 96 → sideAt i ≡ Line
+pub line : (i : ℕ) → 64 ≤ i → i < 96 → sideAt i ≡ Line
 line i h l =
     rw (lt-ltb i 96 l, le-ltb (i + 1) 1 (omega arith), le-ltb (i + 1) 65 (omega arith), lt-ltb (i + 1) 97 (omega arith))
 
@@ -58,9 +59,20 @@ free-octet s i = by (eqb (getD s i 0) 0) (eqb (getD s i 0) 1) (eqb (getD s i 0) 
     by false false false false true = refl
     by false false false false false = refl
 
+-- a call is counted on the side of its place alone
+module _ (s : List ℕ) (i : ℕ) where
+  abbrev counted : ℕ
+  counted = cond (not (eqb (stateAt s i) 0)) 1 0
+
+  pub position-counts : i < 64 → (heldOn Position i (recordFrom s (i * 22)) ≡ counted) × (heldOn Line i (recordFrom s (i * 22)) ≡ 0)
+  position-counts h = (rw (position i h, free-octet s (i * 22)), rw (position i h))
+
+  pub line-counts : 64 ≤ i → i < 96 → (heldOn Position i (recordFrom s (i * 22)) ≡ 0) × (heldOn Line i (recordFrom s (i * 22)) ≡ counted)
+  line-counts h l = (rw (line i h l), rw (line i h l, free-octet s (i * 22)))
+
 -- THE TEST OF A PLACE
 module _ (s : List ℕ) (i : ℕ) where
-  pub fits-free : stateAt s i ≡ 0 → placeFits s i ≡ allZeros (recordFrom s (i * 21))
+  pub fits-free : stateAt s i ≡ 0 → placeFits s i ≡ allZeros (recordFrom s (i * 22))
   unfolding recordFrom
   fits-free e = rw (e, free-fits (sideAt i))
 
@@ -87,9 +99,9 @@ module _ (s : List ℕ) (i : ℕ) where
     on-line h l n = rw (line i h l, number-back (stateAt s i) low, ne-eqb (stateAt s i) 1 n)
 
     pub fits-other : fitsSide (sideAt i) (stateOf (stateAt s i)) ≡ true → (stateAt s i ≡ 0 → ⊥) → (stateAt s i ≡ 4 → ⊥)
-        → placeFits s i ≡ eqb (pairAt s (i * 21 + 17)) 0
+        → placeFits s i ≡ eqb (pairAt s (i * 22 + 17)) 0
     unfolding recordFrom
-    fits-other f z r = rw (lt-ltb (stateAt s i) 6 low, f) (no-connection (stateAt s i) (recordFrom s (i * 21)) low z r)
+    fits-other f z r = rw (lt-ltb (stateAt s i) 6 low, f) (no-connection (stateAt s i) (recordFrom s (i * 22)) low z r)
 
 -- ---- all places
 
@@ -100,18 +112,18 @@ both-fail true b false d e = refl
 
 -- the places from i on fit
 abbrev pub fitFrom : List ℕ → ℕ → Bool
-fitFrom s i = statesFit s (i * 21) (96 - i) && every placeSound i (recordsFrom s (i * 21) (96 - i))
+fitFrom s i = statesFit s (i * 22) (96 - i) && every placeSound i (recordsFrom s (i * 22) (96 - i))
 
 module _ (s : List ℕ) (i : ℕ) (h : i < 96) where
   fit-step : fitFrom s i
-      ≡ ((ltb (stateAt s i) 6 && statesFit s ((i + 1) * 21) (96 - (i + 1)))
-      && (placeSound i (recordFrom s (i * 21)) [] && every placeSound (i + 1) (recordsFrom s ((i + 1) * 21) (96 - (i + 1)))))
+      ≡ ((ltb (stateAt s i) 6 && statesFit s ((i + 1) * 22) (96 - (i + 1)))
+      && (placeSound i (recordFrom s (i * 22)) [] && every placeSound (i + 1) (recordsFrom s ((i + 1) * 22) (96 - (i + 1)))))
   fit-step =
       let left : 96 - i ≡ suc (96 - (i + 1)) = omega arith in
-      let next : i * 21 + 21 ≡ (i + 1) * 21 = omega arith in
+      let next : i * 22 + 22 ≡ (i + 1) * 22 = omega arith in
       rw (
-        states-step s (i * 21) (96 - i) (96 - (i + 1)) left,
-        records-step s (i * 21) (96 - i) (96 - (i + 1)) left,
+        states-step s (i * 22) (96 - i) (96 - (i + 1)) left,
+        records-step s (i * 22) (96 - i) (96 - (i + 1)) left,
         next,
       )
 
@@ -120,7 +132,7 @@ module _ (s : List ℕ) (i : ℕ) (h : i < 96) where
 
   pub fit-passes : placeFits s i ≡ true → fitFrom s i ≡ fitFrom s (i + 1)
   fit-passes e =
-      let sound = placeSound i (recordFrom s (i * 21)) [] in
+      let sound = placeSound i (recordFrom s (i * 22)) [] in
       fit-step ∙ rw (and-left (ltb (stateAt s i) 6) sound e, and-right (ltb (stateAt s i) 6) sound e)
 
 pub fit-end : (s : List ℕ) (i : ℕ) → 96 ≤ i → fitFrom s i ≡ true

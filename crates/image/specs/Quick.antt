@@ -1,4 +1,5 @@
--- What the quick test of an image goes by: a place by its octets, octets taken eight at a time, and the places by buckets of their calls.
+-- What the quick test of an image goes by: a place by its octets, octets taken eight at a time, the places by buckets of their calls, and the
+-- calls of either side. (Ranks go by the marks of table/specs/Marks.)
 -- For speed only: no statement about an image depends on it.
 -- Assumes nothing.
 use mathlib.Core.Path.{_≡_}
@@ -7,22 +8,26 @@ use mathlib.Core.List.{List, [], _∷_}
 use Prim.Native.Nat.{ℕ, zero, suc, _+_, _*_, _%_, _^_, _<_}
 use lib.Dec.{eqb, ltb}
 use lib.ListN.{length, getD, take, drop}
+use Rattle.table.specs.declared.Side.{Side}
+use Rattle.table.specs.declared.Side.the-variants.{Position, Line}
 use Rattle.table.specs.Sound.{placeSound}
-use Rattle.image.specs.Image.{recordFrom}
+use Rattle.table.specs.Ranks.{callsOn}
+use Rattle.image.specs.declared.ranks.Calls.{Calls}
+use Rattle.image.specs.Image.{recordFrom, tableFrom}
 
 -- ---- a place by its octets
 
 -- the state octet of place k
 abbrev pub stateAt : List ℕ → ℕ → ℕ
-stateAt s k = getD s (k * 21) 0
+stateAt s k = getD s (k * 22) 0
 
 -- the call of place k
 abbrev pub callAt : List ℕ → ℕ → List ℕ
-callAt s k = take 16 (drop (k * 21 + 1) s)
+callAt s k = take 16 (drop (k * 22 + 1) s)
 
 -- the octets of place k are those of a record that may stand there
 abbrev pub placeFits : List ℕ → ℕ → Bool
-placeFits s k = ltb (stateAt s k) 6 && placeSound k (recordFrom s (k * 21)) []
+placeFits s k = ltb (stateAt s k) 6 && placeSound k (recordFrom s (k * 22)) []
 
 -- place k is occupied
 abbrev pub Busy : List ℕ → ℕ → Type 0
@@ -71,3 +76,20 @@ pub record Entered (s : List ℕ) (n : ℕ) (last before : List ℕ) : Type 0 wh
   pub lasts : (h : ℕ) → h < 509 → getD last h 0 ≡ lastIn s h n
   pub linked : Linked s n before
   pub apart : (m : ℕ) → m < n → (k : ℕ) → k < m → Apart s k m
+
+-- ---- ranks
+
+-- how many calls either side has
+abbrev pub callsIn : List ℕ → Calls
+callsIn s = record { positions = callsOn (tableFrom s) Position; lines = callsOn (tableFrom s) Line }
+
+-- ---- the places of a side
+
+abbrev pub firstOf : Side → ℕ
+firstOf Position = 0
+firstOf Line = 64
+
+-- one past its last
+abbrev pub endOf : Side → ℕ
+endOf Position = 64
+endOf Line = 96

@@ -1,6 +1,7 @@
 // Looking through the places of an image.
 
 use crate::octets;
+use crate::ranks;
 use crate::words;
 use table::Found;
 use table::Side;
@@ -8,17 +9,19 @@ use table::State;
 use table::Table;
 use table::search;
 ghost use mathlib.Core.Path.{_≡_};
-ghost use Prim.Native.Nat.{_*_, _<_};
+ghost use Prim.Native.Nat.{ℕ, _*_, _<_};
 ghost use lib.ListN.{length};
+ghost use Rattle.table.specs.declared.Found.the-variants.{At};
 ghost use Rattle.table.specs.Search.{holds, findCall, lowestIn};
-ghost use Rattle.image.specs.Image.{recordFrom, tableFrom, foundIn, lowestFound};
+ghost use Rattle.table.specs.Ranks.{earlier, nextWaiting};
+ghost use Rattle.image.specs.Image.{recordFrom, tableFrom, foundIn, lowestFound, nextFound};
 
 // The call is compared before the state: it hardly ever agrees, and the processor can count on that.
 fn holds_call(image: &[u8], i: usize, call: &[u8]) -> bool
-    requires { ⌜ (i < 96) × (length (now image) ≡ 2016) × (length (now call) ≡ 16) ⌝ }
-    ensures { λ r. ⌜ r ≡ holds (now (call .entry)) (recordFrom (now (image .entry)) (i * 21)) ⌝ }
+    requires { ⌜ (i < 96) × (length (now image) ≡ 2112) × (length (now call) ≡ 16) ⌝ }
+    ensures { λ r. ⌜ r ≡ holds (now (call .entry)) (recordFrom (now (image .entry)) (i * 22)) ⌝ }
 {
-    let at = i * 21;
+    let at = i * 22;
     if words::same_call(image, at + 1, call, 0) {
         return image[at] != 0;
     }
@@ -26,7 +29,7 @@ fn holds_call(image: &[u8], i: usize, call: &[u8]) -> bool
 }
 
 fn call_among(image: &[u8], call: &[u8]) -> Found
-    requires { ⌜ (length (now image) ≡ 2016) × (length (now call) ≡ 16) ⌝ }
+    requires { ⌜ (length (now image) ≡ 2112) × (length (now call) ≡ 16) ⌝ }
     ensures { λ r. ⌜ r ≡ findCall (tableFrom (now (image .entry))) (now (call .entry)) ⌝ }
 {
     let mut i: usize = 0;
@@ -43,7 +46,7 @@ fn call_among(image: &[u8], call: &[u8]) -> Found
 pub fn find_call(image: &[u8], call: [u8; 16]) -> Found
     ensures { λ r. ⌜ r ≡ foundIn (now (image .entry)) call ⌝ }
 {
-    if image.len() == 2016 {
+    if image.len() == 2112 {
         call_among(image, &call)
     } else {
         Found::Nothing
@@ -51,12 +54,12 @@ pub fn find_call(image: &[u8], call: [u8; 16]) -> Found
 }
 
 fn lowest_among(image: &[u8], a: Side, s: State) -> Found
-    requires { ⌜ length (now image) ≡ 2016 ⌝ }
+    requires { ⌜ length (now image) ≡ 2112 ⌝ }
     ensures { λ r. ⌜ r ≡ lowestIn (tableFrom (now (image .entry))) a s ⌝ }
 {
     let mut i: usize = 0;
     while i < Table::PLACES {
-        let r = octets::read_record(image, i * 21);
+        let r = octets::read_record(image, i * 22);
         if search::is_at(a, s, i, r) {
             return Found::At(i);
         }
@@ -69,8 +72,53 @@ fn lowest_among(image: &[u8], a: Side, s: State) -> Found
 pub fn lowest_in(image: &[u8], a: Side, s: State) -> Found
     ensures { λ r. ⌜ r ≡ lowestFound (now (image .entry)) a s ⌝ }
 {
-    if image.len() == 2016 {
+    if image.len() == 2112 {
         lowest_among(image, a, s)
+    } else {
+        Found::Nothing
+    }
+}
+
+// Of place n and the one that was found before it: the one that came first.
+fn earlier_of(image: &[u8], n: usize, f: Found) -> Found
+    requires { ⌜ (n < 96) × (length (now image) ≡ 2112) × ((i : ℕ) → f ≡ At i → i < 96) ⌝ }
+    ensures { λ r. ⌜ r ≡ earlier (tableFrom (now (image .entry))) n f ⌝ }
+{
+    match f {
+        Found::At(i) => {
+            if image[n * 22 + 21] < image[i * 22 + 21] {
+                Found::At(n)
+            } else {
+                Found::At(i)
+            }
+        }
+        Found::Nothing => Found::At(n),
+    }
+}
+
+fn next_among(image: &[u8], a: Side) -> Found
+    requires { ⌜ length (now image) ≡ 2112 ⌝ }
+    ensures { λ r. ⌜ r ≡ nextWaiting (tableFrom (now (image .entry))) a ⌝ }
+{
+    let s = a.waiting().number();
+    let mut found = Found::Nothing;
+    let mut i = ranks::first_of(a);
+    let end = ranks::end_of(a);
+    while i < end {
+        if image[i * 22] == s {
+            found = earlier_of(image, i, found);
+        }
+        i += 1;
+    }
+    found
+}
+
+// The waiting place of a side that is served; nothing in what is not as long as an image.
+pub fn next_waiting(image: &[u8], a: Side) -> Found
+    ensures { λ r. ⌜ r ≡ nextFound (now (image .entry)) a ⌝ }
+{
+    if image.len() == 2112 {
+        next_among(image, a)
     } else {
         Found::Nothing
     }

@@ -1,19 +1,19 @@
 -- At the image of a sound table, what is done octet by octet is the step of the machine: the answer is its answer, and what is left is the
--- image of its table. One place is written: the image that was read is the image of its table (`image-written-back`), and the new
--- record's octets in their place make the new image (`place-image`).
+-- image of its table. One record is put: the image that was read is the image of its table (`image-written-back`), and a record put in it
+-- makes the new image (`place-put`).
 -- Assumes nothing.
 use mathlib.Core.Path.{_≡_, refl, sym, ap, _∙_}
 use mathlib.Core.Bool.{Bool, true, false, cond}
 use mathlib.Core.List.{List}
-use Prim.Native.Nat.{ℕ, _*_, _<_}
+use Prim.Native.Nat.{ℕ, _<_}
 use lib.Dec.{eqb}
-use lib.ListN.{length, getD, set}
-use lib.Seq.{sets}
-use borrow.Author.Tests.{eqb-true, eq-eqb, ne-eqb, lt-ltb}
+use lib.ListN.{length, getD}
+use borrow.Author.Tests.{eqb-true, eq-eqb, ne-eqb}
 use Rattle.laws.proofs.Bools.{and-left, and-right}
 use Rattle.table.specs.declared.Record.{Record}
 use Rattle.table.specs.declared.Table.{Table}
 use Rattle.table.specs.Places.{sideAt, recordAt}
+use Rattle.table.specs.Ranks.{nextWaiting, put}
 use Rattle.table.specs.Sound.{isSound}
 use Rattle.events.specs.declared.Event.{Event}
 use Rattle.events.specs.declared.Acted.{Acted}
@@ -29,7 +29,7 @@ use Rattle.events.specs.Answers.{saying}
 use Rattle.events.specs.Act.{stayCall, left, acted}
 use Rattle.step.specs.declared.aim.Aim.{Aim}
 use Rattle.step.specs.declared.aim.Aim.the-variants.{To, Nowhere}
-use Rattle.step.specs.Aim.{aim, nextWaiting}
+use Rattle.step.specs.Aim.{aim}
 use Rattle.step.specs.Step.{carriedOut, stepOf}
 use Rattle.step.proofs.Aims.{aim-inside}
 use Rattle.events.proofs.Refusals.{refused-not-0}
@@ -37,8 +37,9 @@ use Rattle.lines.specs.declared.ReadEvent.{ReadEvent}
 use Rattle.lines.specs.EventLine.{readLine}
 use Rattle.lent.specs.LineStep.{stepRead}
 use Rattle.lines.proofs.Ranged.{read-ranged}
-use Rattle.image.specs.Image.{octetsOf, imageOf, placeWritten, statesFit, tableFrom, isRead}
-use Rattle.image.proofs.Round.{fit-from, image-written-back, place-image}
+use Rattle.image.specs.Image.{imageOf, placePut, statesFit, tableFrom, isRead}
+use Rattle.image.proofs.Round.{fit-from, image-written-back}
+use Rattle.image.proofs.Puts.{place-put}
 use Rattle.lent.specs.Lent.{stepOn, leftOn, leftFor, eventAnswer, eventImage, lineAnswer, lineImage}
 
 -- what is left at a place has a call of 16 octets, where the event and the record have
@@ -60,20 +61,19 @@ module _ (image : List ℕ) (octets : (k : ℕ) → getD image k 0 < 256) (good 
   abbrev held : Table
   held = tableFrom image
 
-  pub image-long : length image ≡ 2016
-  image-long = eqb-true (length image) 2016 (and-left (eqb (length image) 2016) _ good)
+  pub image-long : length image ≡ 2112
+  image-long = eqb-true (length image) 2112 (and-left (eqb (length image) 2112) _ good)
 
   pub image-sound : isSound held ≡ true
-  image-sound = and-right (statesFit image 0 96) _ (and-right (eqb (length image) 2016) _ good)
+  image-sound = and-right (statesFit image 0 96) _ (and-right (eqb (length image) 2112) _ good)
 
   module _ (e : Event) (given : length (e .call) ≡ 16) where
     -- an accepted event's record, in its place
     place-kept : (i : ℕ) (a : Acted) → i < 96 → length (a .after .call) ≡ 16
-        → (b : Bool) → cond b (placeWritten i (a .after) image) image ≡ cond b (imageOf (record { places = set (held .places) i (a .after) })) image
+        → (b : Bool) → cond b (placePut i (a .after) image) image ≡ cond b (imageOf (put held i (a .after))) image
     place-kept i a inside long true =
-        rw (eq-eqb (length image) 2016 image-long, lt-ltb i 96 inside)
-        (ap (λ s. sets s (i * 21) (octetsOf (a .after))) (sym (image-written-back image (λ k h. octets k) good))
-        ∙ place-image held i (a .after) (fit-from image image-long) inside long)
+        ap (placePut i (a .after)) (sym (image-written-back image (λ k h. octets k) good))
+        ∙ place-put held (fit-from image image-long) i inside (a .after) long
     place-kept i a inside long false = refl
 
     by-aim : (k : Rule) → ruleOf (e .kind) ≡ k → (a : Aim) → aim (nextWaiting held) k held e ≡ a
@@ -86,10 +86,10 @@ module _ (image : List ℕ) (octets : (k : ℕ) → getD image k 0 < 256) (good 
         rw (← rule) (place-kept i (acted e i r) inside (acted-long e i r given (fit .calls i inside)) (eqb (acted e i r .answer .number) 0))
 
     pub answer-kept : eventAnswer image e ≡ stepOf held e .answer
-    answer-kept = rw (eq-eqb (length image) 2016 image-long, image-sound)
+    answer-kept = rw (eq-eqb (length image) 2112 image-long, image-sound)
 
     pub image-kept : eventImage image e ≡ cond (eqb (stepOf held e .answer .number) 0) (imageOf (stepOf held e .table)) image
-    image-kept = rw (eq-eqb (length image) 2016 image-long, image-sound) (by-aim (ruleOf (e .kind)) refl (aim (nextWaiting held) (ruleOf (e .kind)) held e) refl)
+    image-kept = rw (eq-eqb (length image) 2112 image-long, image-sound) (by-aim (ruleOf (e .kind)) refl (aim (nextWaiting held) (ruleOf (e .kind)) held e) refl)
 
   -- THE LINE AT THE IMAGE
   pub line-kept : (line : List ℕ) → (lineAnswer image line ≡ stepOn image line .answer) × (lineImage image line ≡ leftOn image line)

@@ -40,17 +40,17 @@ connections-from : (n i : ℕ) (s : List ℕ) → ((k : ℕ) → getD s k 0 < 25
 unfolding recordsFrom recordFrom
 connections-from zero i s octets k h = absurd (not-suc-le-zero h)
 connections-from (suc n) i s octets zero h = omega (arith, octets (i + 17), octets (i + 17 + 1))
-connections-from (suc n) i s octets (suc k) h = connections-from n (i + 21) s octets k (le-of-suc-le-suc h)
+connections-from (suc n) i s octets (suc k) h = connections-from n (i + 22) s octets k (le-of-suc-le-suc h)
 
-typed-from : (image : List ℕ) → ((k : ℕ) → getD image k 0 < 256) → length image ≡ 2016 → TypedTable (tableFrom image)
+typed-from : (image : List ℕ) → ((k : ℕ) → getD image k 0 < 256) → length image ≡ 2112 → TypedTable (tableFrom image)
 typed-from image octets long =
     let fit = fit-from image long in
-    record { size = fit .size; call = fit .calls; connection = connections-from 96 0 image octets }
+    record { size = (fit .size, fit .wide); call = fit .calls; connection = connections-from 96 0 image octets }
 
 -- A LINE AT AN IMAGE
 pub on-short : (image line : List ℕ) → ((k : ℕ) → getD image k 0 < 256) → length (answerLine (stepOn image line .answer)) ≤ longest
 on-short image line octets = by (isRead image) refl
   where
     by : (b : Bool) → isRead image ≡ b → length (answerLine (stepOn image line .answer)) ≤ longest
-    by true q = rw q (line-short (tableFrom image) line (typed-from image octets (eqb-true (length image) 2016 (and-left (eqb (length image) 2016) _ q))))
+    by true q = rw q (line-short (tableFrom image) line (typed-from image octets (eqb-true (length image) 2112 (and-left (eqb (length image) 2112) _ q))))
     by false q = rw q (number-short 25 (lit≤ tt))

@@ -11,9 +11,9 @@ use lib.ListN.{length, getD, replicate, length-replicate, getD-replicate, replic
 use borrow.Author.Tests.{eqb-false}
 use Rattle.table.specs.declared.Table.{Table}
 use Rattle.table.specs.Places.{freeRecord, emptyTable, blank, recordAt}
+use Rattle.table.specs.Ranks.{nextWaiting}
 use Rattle.table.specs.Sound.{isSound}
 use Rattle.table.proofs.Facts.{empty-sound}
-use Rattle.table.proofs.Keep.{put-size, each}
 use Rattle.events.specs.declared.Event.{Event}
 use Rattle.events.specs.declared.message.Message.the-variants.{NoMessage}
 use Rattle.events.specs.Rule.{ruleOf}
@@ -21,7 +21,7 @@ use Rattle.events.specs.Answers.{saying}
 use Rattle.events.specs.Act.{acted}
 use Rattle.step.specs.declared.aim.Aim.{Aim}
 use Rattle.step.specs.declared.aim.Aim.the-variants.{To, Nowhere}
-use Rattle.step.specs.Aim.{aim, nextWaiting}
+use Rattle.step.specs.Aim.{aim}
 use Rattle.step.specs.Step.{carriedOut, stepOf}
 use Rattle.step.proofs.Aims.{aim-inside}
 use Rattle.step.proofs.Promises.{keeps-sound, refusal-keeps}
@@ -31,6 +31,7 @@ use Rattle.lent.specs.LineStep.{lineStep}
 use Rattle.lines.proofs.Ranged.{read-ranged}
 use Rattle.image.specs.declared.ReadImage.{ReadImage}
 use Rattle.image.specs.Image.{octetsOf, octetsOfAll, imageOf, tableFrom, isRead}
+use Rattle.image.proofs.Puts.{put-fit}
 use Rattle.image.proofs.Round.{Fit, fit-from, image-reads-back, image-written-back}
 use Rattle.lent.specs.Lent.{stepOn, stepAt, leftOn}
 use Rattle.lent.proofs.Kept.{acted-long, image-long, image-sound}
@@ -47,14 +48,10 @@ module _ (t : Table) (g : Good t) (e : Event) (given : length (e .call) ≡ 16) 
   fit-at (Nowhere w) q = g .fit
   fit-at (To i) q =
       let inside : i < 96 = aim-inside t (g .fit .size) (ruleOf (e .kind)) e i q in
-      let new = acted e i (recordAt t i) .after in
-      record {
-        size = put-size t (g .fit .size) i inside new;
-        calls = each t (g .fit .size) i inside new (λ j r. length (r .call) ≡ 16) (acted-long e i (recordAt t i) given (g .fit .calls i inside)) (g .fit .calls);
-      }
+      put-fit t (g .fit) i inside (acted e i (recordAt t i) .after) (acted-long e i (recordAt t i) given (g .fit .calls i inside))
 
   event-good : Good (stepOf t e .table)
-  event-good = record { fit = rw (g .sound) (fit-at (aim (nextWaiting t) (ruleOf (e .kind)) t e) refl); sound = keeps-sound t e (g .fit .size) (g .sound) }
+  event-good = record { fit = rw (g .sound) (fit-at (aim (nextWaiting t) (ruleOf (e .kind)) t e) refl); sound = keeps-sound t e (g .fit .size, g .fit .wide) (g .sound) }
 
 -- ---- after a line
 
@@ -73,7 +70,7 @@ module _ (t : Table) (g : Good t) (line : List ℕ) where
     where
       by : (r : ReadEvent) (b : Bool) → eqb (cond b (stepOf t (r .event)) (record { table = t; answer = saying (r .number) NoMessage }) .answer .number) 0 ≡ false
           → cond b (stepOf t (r .event)) (record { table = t; answer = saying (r .number) NoMessage }) .table ≡ t
-      by r true q = refusal-keeps t (r .event) (g .fit .size) (eqb-false _ 0 q)
+      by r true q = refusal-keeps t (r .event) (g .fit .size, g .fit .wide) (eqb-false _ 0 q)
       by r false q = refl
 
   -- THE LINE AT THE IMAGE OF THE TABLE
@@ -107,17 +104,17 @@ stays-read image line octets good =
 
 pub empty-good : Good emptyTable
 empty-good = record {
-  fit = record { size = length-replicate 96 freeRecord; calls = λ i h. ap (λ r. length (r .call)) (getD-replicate 96 i freeRecord blank h) };
+  fit = record { size = length-replicate 96 freeRecord; wide = length-replicate {A = ℕ} 96 0; calls = λ i h. ap (λ r. length (r .call)) (getD-replicate 96 i freeRecord blank h) };
   sound = empty-sound;
 }
 
 -- its image is all zeros
-free-octets : (n : ℕ) → octetsOfAll (replicate n freeRecord) ≡ replicate (n * 21) 0
+free-octets : (n : ℕ) → octetsOfAll (replicate n freeRecord) (replicate n 0) ≡ replicate (n * 22) 0
 unfolding octetsOfAll octetsOf
 free-octets zero = refl
 free-octets (suc n) =
-    let more : 21 + n * 21 ≡ suc n * 21 = omega arith in
-    ap (λ (l : List ℕ). replicate 21 0 ++ l) (free-octets n) ∙ replicate-append-replicate 21 (n * 21) 0 ∙ ap (λ (k : ℕ). replicate k 0) more
+    let more : 22 + n * 22 ≡ suc n * 22 = omega arith in
+    ap (λ (l : List ℕ). replicate 22 0 ++ l) (free-octets n) ∙ replicate-append-replicate 22 (n * 22) 0 ∙ ap (λ (k : ℕ). replicate k 0) more
 
-pub empty-image : imageOf emptyTable ≡ replicate 2016 0
+pub empty-image : imageOf emptyTable ≡ replicate 2112 0
 empty-image = free-octets 96

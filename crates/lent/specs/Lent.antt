@@ -7,6 +7,7 @@ use Prim.Native.Nat.{ℕ}
 use lib.Dec.{eqb}
 use lib.ListN.{length}
 use Rattle.table.specs.Places.{recordAt}
+use Rattle.table.specs.Ranks.{nextWaiting}
 use Rattle.events.specs.declared.Event.{Event}
 use Rattle.events.specs.declared.Answer.{Answer}
 use Rattle.events.specs.declared.Acted.{Acted}
@@ -17,12 +18,12 @@ use Rattle.events.specs.Act.{acted}
 use Rattle.step.specs.declared.Step.{Step}
 use Rattle.step.specs.declared.aim.Aim.{Aim}
 use Rattle.step.specs.declared.aim.Aim.the-variants.{To, Nowhere}
-use Rattle.step.specs.Aim.{aim, nextWaiting}
+use Rattle.step.specs.Aim.{aim}
 use Rattle.step.specs.Step.{stepAny}
 use Rattle.lines.specs.EventLine.{readLine}
 use Rattle.lent.specs.LineStep.{lineStep}
 use Rattle.image.specs.declared.ReadImage.{ReadImage}
-use Rattle.image.specs.Image.{imageOf, placeWritten, tableFrom, readImage}
+use Rattle.image.specs.Image.{imageOf, placePut, tableFrom, readImage}
 
 -- ---- the line at an image
 
@@ -39,9 +40,9 @@ leftOn image line = cond (eqb (stepOn image line .answer .number) 0) (imageOf (s
 
 -- ---- octet by octet
 
--- what an event leaves at a place is written there where it is accepted
+-- what an event leaves at a place is put there where it is accepted
 abbrev pub writtenAt : List ℕ → ℕ → Acted → List ℕ
-writtenAt image i a = cond (eqb (a .answer .number) 0) (placeWritten i (a .after) image) image
+writtenAt image i a = cond (eqb (a .answer .number) 0) (placePut i (a .after) image) image
 
 abbrev pub leftFor : List ℕ → Event → Aim → List ℕ
 leftFor image e (Nowhere w) = image
@@ -49,10 +50,10 @@ leftFor image e (To i) = writtenAt image i (acted e i (recordAt (tableFrom image
 
 -- the event at the image
 abbrev pub eventAnswer : List ℕ → Event → Answer
-eventAnswer image e = cond (eqb (length image) 2016) (stepAny (tableFrom image) e .answer) (saying 25 NoMessage)
+eventAnswer image e = cond (eqb (length image) 2112) (stepAny (tableFrom image) e .answer) (saying 25 NoMessage)
 
 abbrev pub eventImage : List ℕ → Event → List ℕ
-eventImage image e = cond (eqb (length image) 2016) (leftFor image e (aim (nextWaiting (tableFrom image)) (ruleOf (e .kind)) (tableFrom image) e)) image
+eventImage image e = cond (eqb (length image) 2112) (leftFor image e (aim (nextWaiting (tableFrom image)) (ruleOf (e .kind)) (tableFrom image) e)) image
 
 -- the line at the image
 abbrev pub lineAnswer : List ℕ → List ℕ → Answer

@@ -1,5 +1,6 @@
 // The table kept as its image, in octets that the caller lends. No table is copied: an event is for one place, and only the octets of that
-// place are read and written. What comes of a line is defined in specs/Lent.antt, by the machine's own definition.
+// place are read and written, and ranks of its side where a call begins or ends. What comes of a line is defined in specs/Lent.antt, by the
+// machine's own definition.
 
 use events::Answer;
 use events::Event;
@@ -20,14 +21,15 @@ ghost use Rattle.table.specs.declared.Found.the-variants.{At};
 ghost use Rattle.table.specs.Places.{recordAt};
 ghost use Rattle.events.specs.Rule.{ruleOf};
 ghost use Rattle.events.specs.Act.{acted};
-ghost use Rattle.step.specs.Aim.{aimAt, isProposed, chosen, aimNew, aim, nextWaiting};
+ghost use Rattle.table.specs.Ranks.{nextWaiting};
+ghost use Rattle.step.specs.Aim.{aimAt, isProposed, chosen, aimNew, aim};
 ghost use Rattle.step.specs.Step.{carriedOut, stepAny};
 ghost use Rattle.image.specs.Image.{tableFrom, isRead};
 ghost use Rattle.lent.specs.Lent.{stepOn, leftOn, writtenAt, leftFor, eventAnswer, eventImage, lineAnswer, lineImage};
 
 // The event at the index that it is for.
 fn act_at(image: &mut [u8], i: usize, e: Event) -> Answer
-    requires { ⌜ (length (now image) ≡ 2016) × (i < 96) ⌝ }
+    requires { ⌜ (length (now image) ≡ 2112) × (i < 96) ⌝ }
     ensures { λ r. ⌜ (r ≡ acted e i (recordAt (tableFrom (now (image .entry))) i) .answer) × (now (image .exit) ≡ writtenAt (now (image .entry)) i (acted e i (recordAt (tableFrom (now (image .entry))) i))) ⌝ }
 {
     let r = image::read_place(i, image);
@@ -35,14 +37,14 @@ fn act_at(image: &mut [u8], i: usize, e: Event) -> Answer
     let answer = a.answer;
     if answer.number == 0 {
         let after = a.after;
-        image::write_place(i, after, image);
+        image::put_place(i, after, image);
     }
     answer
 }
 
 // The event at the place that was found for it, or its refusal.
 fn act_found(image: &mut [u8], e: Event, f: Found, w: Refusal) -> Answer
-    requires { ⌜ (length (now image) ≡ 2016) × ((i : ℕ) → f ≡ At i → i < 96) ⌝ }
+    requires { ⌜ (length (now image) ≡ 2112) × ((i : ℕ) → f ≡ At i → i < 96) ⌝ }
     ensures { λ r. ⌜ (r ≡ carriedOut (ruleOf (e .kind)) (tableFrom (now (image .entry))) e (aimAt f w) .answer) × (now (image .exit) ≡ leftFor (now (image .entry)) e (aimAt f w)) ⌝ }
 {
     match f {
@@ -52,7 +54,7 @@ fn act_found(image: &mut [u8], e: Event, f: Found, w: Refusal) -> Answer
 }
 
 fn is_proposed(image: &[u8], d: Side, p: Place) -> bool
-    requires { ⌜ length (now image) ≡ 2016 ⌝ }
+    requires { ⌜ length (now image) ≡ 2112 ⌝ }
     ensures { λ r. ⌜ r ≡ isProposed (tableFrom (now (image .entry))) d p ⌝ }
 {
     if p.side().is_of(d) {
@@ -67,7 +69,7 @@ fn is_proposed(image: &[u8], d: Side, p: Place) -> bool
 
 // The proposed place, or the lowest free one.
 fn choose(image: &[u8], d: Side, p: Place) -> Found
-    requires { ⌜ length (now image) ≡ 2016 ⌝ }
+    requires { ⌜ length (now image) ≡ 2112 ⌝ }
     ensures { λ r. ⌜ r ≡ chosen (tableFrom (now (image .entry))) d p ⌝ }
 {
     if is_proposed(image, d, p) {
@@ -79,7 +81,7 @@ fn choose(image: &[u8], d: Side, p: Place) -> Found
 
 // A park or an alert.
 fn act_new(image: &mut [u8], d: Side, e: Event) -> Answer
-    requires { ⌜ length (now image) ≡ 2016 ⌝ }
+    requires { ⌜ length (now image) ≡ 2112 ⌝ }
     ensures { λ r. ⌜ (r ≡ carriedOut (ruleOf (e .kind)) (tableFrom (now (image .entry))) e (aimNew d (tableFrom (now (image .entry))) e) .answer) × (now (image .exit) ≡ leftFor (now (image .entry)) e (aimNew d (tableFrom (now (image .entry))) e)) ⌝ }
 {
     let call = e.call;
@@ -94,7 +96,7 @@ fn act_new(image: &mut [u8], d: Side, e: Event) -> Answer
 }
 
 fn act_on(image: &mut [u8], e: Event) -> Answer
-    requires { ⌜ length (now image) ≡ 2016 ⌝ }
+    requires { ⌜ length (now image) ≡ 2112 ⌝ }
     ensures { λ r. ⌜ (r ≡ stepAny (tableFrom (now (image .entry))) e .answer) × (now (image .exit) ≡ leftFor (now (image .entry)) e (aim (nextWaiting (tableFrom (now (image .entry)))) (ruleOf (e .kind)) (tableFrom (now (image .entry))) e)) ⌝ }
 {
     match sought::sought_of(e) {
@@ -104,7 +106,7 @@ fn act_on(image: &mut [u8], e: Event) -> Answer
             act_found(image, e, f, Refusal::CallNotHeld)
         }
         Sought::Waiting(a) => {
-            let f = search::lowest_in(image, a, a.waiting());
+            let f = search::next_waiting(image, a);
             act_found(image, e, f, Refusal::NothingWaits)
         }
         Sought::Room(d) => act_new(image, d, e),
@@ -116,7 +118,7 @@ fn act_on(image: &mut [u8], e: Event) -> Answer
 pub fn step_event(image: &mut [u8], e: Event) -> Answer
     ensures { λ r. ⌜ (r ≡ eventAnswer (now (image .entry)) e) × (now (image .exit) ≡ eventImage (now (image .entry)) e) ⌝ }
 {
-    if image.len() != 2016 {
+    if image.len() != 2112 {
         return answers::only_number(25);
     }
     act_on(image, e)

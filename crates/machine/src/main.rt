@@ -60,10 +60,7 @@ fn record_in(state: State) -> Record {
 }
 
 fn table_before(side: Side, state: State) -> Table {
-    let i = index_of(side);
-    let mut t = Table::empty();
-    t.places[i] = record_in(state);
-    t
+    queue::put_record(Table::empty(), index_of(side), record_in(state))
 }
 
 // A refusal's answer does not say what state the place still has, so it is read from the table.

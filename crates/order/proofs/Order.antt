@@ -24,6 +24,8 @@ use Rattle.table.specs.declared.Found.the-variants.{At, Nothing}
 use Rattle.table.specs.Places.{sameState, sameSide, isFree, isOf, sideOf, sideAt, waitingOn, recordAt}
 use Rattle.table.specs.Timers.{timerSet}
 use Rattle.table.specs.Search.{holds, isAt, findCall, lowestIn}
+use Rattle.table.specs.Ranks.{nextWaiting}
+use Rattle.table.proofs.RankLaws.{found-leads}
 use Rattle.table.specs.Sound.{isSound}
 use Rattle.table.proofs.Calls.{holds-occupied}
 use Rattle.table.proofs.Searches.{found-passes, none-passes}
@@ -41,7 +43,7 @@ use Rattle.events.specs.Turn.{stageBy, stageOf, up, isOutstanding, resulted, fa
 use Rattle.events.specs.Sought.{isTimer}
 use Rattle.events.proofs.Released.{error-in-release}
 use Rattle.events.proofs.Refusals.{pickup-numbered}
-use Rattle.step.specs.Aim.{aimAt, indexOf, isProposed, chosen, unlessHeld, aimNew, aimNamed, aimPickup, nextWaiting}
+use Rattle.step.specs.Aim.{aimAt, indexOf, isProposed, chosen, unlessHeld, aimNew, aimNamed, aimPickup}
 use Rattle.step.specs.Step.{carriedOut, stepOf}
 use Rattle.order.specs.Order.{firstOf, isFound, recordFound, sideFound, isAsked, rows, InOrder}
 use Rattle.step.proofs.Aims.{proposed-side}
@@ -208,7 +210,7 @@ module _ (t : Table) (size : length (t .places) ≡ 96) (s : Signal) (number : (
       by : (f : Found) → nextWaiting t a ≡ f → carriedOut (On s) t e (aimAt f NothingWaits) .answer .number ≡ cond (not (isFound f)) 6 0
       by Nothing q = refl
       by (At i) q =
-          let w = waits a (recordAt t i .state) (and-right (sameSide (sideAt i) a) _ (found-passes t size (isAt a (waitingOn a)) i q .1)) in
+          let w = waits a (recordAt t i .state) (and-right (sameSide (sideAt i) a) _ (found-leads t a 96 i q .1)) in
           at-place t size e s i (w .0) ∙ number e (sideAt i) (recordAt t i) ∙ rw (w .1)
 
   abbrev PickupRows : Event → Type 0
@@ -340,8 +342,8 @@ module _ (t : Table) (size : length (t .places) ≡ 96) (sound : isSound t ≡ t
           (outside (e .kind) n1 n2 n3 n4 n5 n6 n7 n8 n9 n10)
 
 pub in-order : InOrder
-in-order t e size = by (isSound t) refl
+in-order t e all = by (isSound t) refl
   where
     by : (b : Bool) → isSound t ≡ b → stepOf t e .answer .number ≡ firstOf (rows t e)
-    by true q = by-kind t size q e
+    by true q = by-kind t (all .0) q e
     by false q = rw q

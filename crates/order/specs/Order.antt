@@ -18,11 +18,11 @@ use Rattle.table.specs.declared.Found.the-variants.{At, Nothing}
 use Rattle.table.specs.Places.{sameState, sideAt, freeRecord, recordAt}
 use Rattle.table.specs.Timers.{timerSet}
 use Rattle.table.specs.Search.{findCall, lowestIn}
+use Rattle.table.specs.Ranks.{nextWaiting}
 use Rattle.table.specs.Sound.{isSound}
 use Rattle.events.specs.declared.Event.{Event}
 use Rattle.events.specs.Turn.{isOutstanding, runs}
 use Rattle.events.specs.Sought.{isTimer}
-use Rattle.step.specs.Aim.{nextWaiting}
 use Rattle.step.specs.Step.{stepOf}
 use Rattle.step.specs.Promises.{Full}
 

@@ -11,6 +11,8 @@ use Rattle.table.specs.declared.Place.{Place}
 use Rattle.table.specs.declared.Connection.{Connection}
 use Rattle.table.specs.declared.Invoke.{Invoke}
 use Rattle.table.specs.declared.Table.{Table}
+use Rattle.table.specs.Search.{below}
+use Rattle.table.specs.Ranks.{earliest, closedUp}
 use Rattle.table.specs.Places.{noPlace, noConnection, noInvoke, sideAt, recordAt}
 use Rattle.events.specs.declared.Event.{Event}
 use Rattle.events.specs.declared.Answer.{Answer}
@@ -43,30 +45,30 @@ module _ (P : ℕ → Type 0) (at-0 : P 0) where
   alone : (a : Answer) → Within P (a .first) → a .second ≡ saying 0 NoMessage .second → Outgoing P a
   alone a h q = record { first = h; second = rw q (nothing-sent P at-0); one-bare = inr (rw q nothing-bare) }
 
-  outgoing : (t : Table) (size : Full t) (e : Event) → ((i : ℕ) → i < 96 → P (recordAt t i .connection .0)) → P (e .connection .0)
-      → (s : Step) → Stepped t size e s → Outgoing P (s .answer)
-  outgoing t size e held given s (kept w) = alone (s .answer) (refusal-sent P at-0 (e .connection) (ruleOf (e .kind)) _ given (tells (e .connection) (ruleOf (e .kind)) w)) refl
-  outgoing t size e held given s (begun d i sound rule room) = alone (s .answer) (greeting-sent P at-0 d) refl
-  outgoing t size e held given s (ended k i first second at turn) =
+  outgoing : (t : Table) (all : Full t) (e : Event) → ((i : ℕ) → i < 96 → P (recordAt t i .connection .0)) → P (e .connection .0)
+      → (s : Step) → Stepped t (all .0) e s → Outgoing P (s .answer)
+  outgoing t all e held given s (kept w) = alone (s .answer) (refusal-sent P at-0 (e .connection) (ruleOf (e .kind)) _ given (tells (e .connection) (ruleOf (e .kind)) w)) refl
+  outgoing t all e held given s (begun d i sound rule room) = alone (s .answer) (greeting-sent P at-0 d) refl
+  outgoing t all e held given s (ended k i first second at turn) =
       let x = rw turn at (turns P at-0 (sideAt i) (recordAt t i) e (held i (at .inside)) k) in
       record { first = x .0; second = x .1; one-bare = x .2 }
-  outgoing t size e held given s (went-on k i g n m at turn) =
+  outgoing t all e held given s (went-on k i g n m at turn) =
       alone (s .answer) (rw turn at (turns P at-0 (sideAt i) (recordAt t i) e (held i (at .inside)) k)) refl
 
 -- ---- light answers
 
-number-or-place : (t : Table) (size : Full t) (e : Event) (s : Step) → Stepped t size e s → (s .answer .number ≡ 0) ⊎ (s .answer .place ≡ noPlace)
-number-or-place t size e s (kept w) = inr refl
-number-or-place t size e s (begun d i sound rule room) = inl refl
-number-or-place t size e s (ended k i first second at turn) = inl refl
-number-or-place t size e s (went-on k i g n m at turn) = inl refl
+number-or-place : (t : Table) (all : Full t) (e : Event) (s : Step) → Stepped t (all .0) e s → (s .answer .number ≡ 0) ⊎ (s .answer .place ≡ noPlace)
+number-or-place t all e s (kept w) = inr refl
+number-or-place t all e s (begun d i sound rule room) = inl refl
+number-or-place t all e s (ended k i first second at turn) = inl refl
+number-or-place t all e s (went-on k i g n m at turn) = inl refl
 
 pub answers-light : AnswersLight
-answers-light t e size =
+answers-light t e all =
     let s = stepOf t e in
-    let x = outgoing (λ n. Unit {0}) tt t size e (λ i inside. tt) tt s (stepped t size e) in
+    let x = outgoing (λ n. Unit {0}) tt t all e (λ i inside. tt) tt s (stepped t (all .0) e) in
     record {
-      number-or-place = number-or-place t size e s (stepped t size e);
+      number-or-place = number-or-place t all e s (stepped t (all .0) e);
       first = x .first .one-unset;
       second = x .second .one-unset;
       one-bare = x .one-bare;
@@ -151,17 +153,17 @@ module _ (a : Answer) (small : Small a) (light : Light a) (typed : Typed a) wher
 
 -- ---- of every table and event
 
-call-long : (t : Table) (size : Full t) (e : Event) → ((i : ℕ) → i < 96 → length (recordAt t i .call) ≡ 16) → length (e .call) ≡ 16
-    → (s : Step) → Stepped t size e s → length (s .answer .call) ≡ 16
-call-long t size e held given s (kept w) = refl
-call-long t size e held given s (begun d i sound rule room) = given
-call-long t size e held given s (ended k i first second at turn) = held i (at .inside)
-call-long t size e held given s (went-on k i g n m at turn) = held i (at .inside)
+call-long : (t : Table) (all : Full t) (e : Event) → ((i : ℕ) → i < 96 → length (recordAt t i .call) ≡ 16) → length (e .call) ≡ 16
+    → (s : Step) → Stepped t (all .0) e s → length (s .answer .call) ≡ 16
+call-long t all e held given s (kept w) = refl
+call-long t all e held given s (begun d i sound rule room) = given
+call-long t all e held given s (ended k i first second at turn) = held i (at .inside)
+call-long t all e held given s (went-on k i g n m at turn) = held i (at .inside)
 
 pub none-longer : NoneLonger
 none-longer t e table event =
     let s = stepOf t e in
-    let view = stepped t (table .size) e in
+    let view = stepped t (table .size .0) e in
     let x = outgoing (λ n. n ≤ 65535) (lit≤ tt) t (table .size) e (table .connection) (event .connection) s view in
     light-short (s .answer) (answers-small t e (table .size)) (answers-light t e (table .size))
     (record { call = call-long t (table .size) e (table .call) (event .call) s view; first = x .first; second = x .second })
@@ -170,7 +172,7 @@ pub room-suffices : RoomSuffices
 room-suffices t e table event = omega (arith, none-longer t e table event)
 
 pub longest-given : LongestGiven
-unfolding answerLine sentLine decimal
+unfolding answerLine sentLine decimal below earliest closedUp
 longest-given = refl
 
 -- nor is the line of a number alone any longer

@@ -16,7 +16,7 @@ use Rattle.session.specs.declared.Fed.{Fed}
 use Rattle.session.specs.Stream.{answersTo}
 
 abbrev pub started : Session
-started = record { image = replicate 2016 0; kept = replicate 63 0; len = 0 }
+started = record { image = replicate 2112 0; kept = replicate 63 0; len = 0 }
 
 -- what has come of the line
 abbrev pub pending : Session → List ℕ

@@ -18,7 +18,7 @@ ghost use Rattle.session.specs.Keep.{atMost63, keptFrom, lenFrom, untilF
 
 pub struct Session {
     // the table
-    pub image: [u8; 2016],
+    pub image: [u8; 2112],
     // the front of the line that is coming, and how much of it
     pub kept: [u8; 63],
     pub len: usize,
@@ -42,7 +42,7 @@ impl Session {
         ensures { λ r. ⌜ r ≡ started ⌝ }
     {
         Session {
-            image: [0; 2016],
+            image: [0; 2112],
             kept: [0; 63],
             len: 0,
         }

@@ -9,13 +9,9 @@ use Prim.Native.Nat.{ℕ, _<_}
 use native.Mathlib.Decide.{ℕ-discrete}
 use lib.ListN.{length, getD, set, replicate}
 use lib.Seq.{getD-set-same, getD-set-other, ext-getD, append-snoc}
-use Rattle.stays.specs.Stays.{Done, Machine, Replays, stop, Stay, Stays, joined, eventsOf, stayByStay}
+use Rattle.stays.specs.Stays.{In, placesOf, Done, Machine, Replays, stop, Stay, Stays, joined, eventsOf, stayByStay}
 use Rattle.stays.proofs.Laws.{Laws}
 use Rattle.stays.proofs.Part.{Part, Whole, embed, embed-whole, getD-free, replays-append, part-inside, within, Elsewhere}
-
-abbrev pub In : ℕ → List ℕ → Type 0
-In j [] = ⊥
-In j (p ∷ ps) = (j ≡ p) ⊎ In j ps
 
 pub dec-in : (j : ℕ) (ps : List ℕ) → Dec (In j ps)
 dec-in j [] = no (λ h. h)
@@ -29,10 +25,6 @@ dec-in j (p ∷ ps) = either (ℕ-discrete j p) (dec-in j ps)
 abbrev pub Distinct : List ℕ → Type 0
 Distinct [] = Unit {0}
 Distinct (p ∷ ps) = (¬ In p ps) × Distinct ps
-
-abbrev pub placesOf : {X : Type 0} → List (Stay X) → List ℕ
-placesOf [] = []
-placesOf (s ∷ ss) = s .at ∷ placesOf ss
 
 module _ (m : Machine) (l : Laws m) where
   open Machine m using (Table, Event, Answer, empty)

@@ -1,7 +1,8 @@
 -- THE THEOREMS of `specs/Demand.antt`, by their names there. The first three hold of every machine that keeps the laws, and so of
--- the table; the next two are proved in `EachStay` and `Requester`, and the last is computed.
+-- the table; the next three are proved in `EachStay`, `Requester` and `Fair`, and the last is computed.
 -- Assumes nothing.
 use mathlib.Core.Path.{refl}
+use Rattle.table.specs.Search.{below}
 use Rattle.stays.specs.ParkTable.{machine}
 use Rattle.stays.specs.Demand.{ReplaysByStay, HasSameEvents, HasOneResult, StaysInOrder}
 use Rattle.stays.proofs.Keep as Keep
@@ -10,6 +11,7 @@ use Rattle.stays.proofs.Same as Same
 use Rattle.stays.proofs.TableLaws.{laws}
 pub use Rattle.stays.proofs.EachStay.{each-stay}
 pub use Rattle.stays.proofs.Requester.{tells-requester}
+pub use Rattle.stays.proofs.Fair.{serves-first}
 
 pub rearranges : ReplaysByStay
 rearranges = Keep.rearranges machine laws
@@ -21,4 +23,5 @@ pub one-result : HasOneResult
 one-result = Once.one-result machine laws
 
 pub stays-in-order : StaysInOrder
+unfolding below
 stays-in-order = refl

@@ -9,10 +9,10 @@ use Prim.Native.Nat.{ℕ, _<_}
 use native.Mathlib.Decide.{ℕ-discrete}
 use lib.ListN.{length, getD, set, replicate}
 use lib.Seq.{getD-set-same, getD-set-other}
-use Rattle.stays.specs.Stays.{Mark, starts, goes-on, ends, Done, Machine, done, whether, Stay, Stays, longer, others, eventsAt, add, none, keep, final, run, stays, Rearranges}
+use Rattle.stays.specs.Stays.{In, placesOf, Mark, starts, goes-on, ends, Done, Machine, done, whether, Stay, Stays, longer, others, eventsAt, add, none, keep, final, run, stays, Rearranges}
 use Rattle.stays.proofs.Laws.{Laws, arrange, without}
 use Rattle.stays.proofs.Part.{begun, onward, Whole, whole, within, getD-free}
-use Rattle.stays.proofs.Build.{In, dec-in, Distinct, placesOf, Stands, Opens, Wholes, Inv, replayed}
+use Rattle.stays.proofs.Build.{dec-in, Distinct, Stands, Opens, Wholes, Inv, replayed}
 
 -- ---- places
 

@@ -5,10 +5,13 @@ pub mod Keep
 pub mod Same
 pub mod Every
 pub mod Once
+pub mod StartRanks
 pub mod Turned
 pub mod OneTurn
+pub mod Ordered
 pub mod TableLaws
 pub mod EachStay
 pub mod Requester
+pub mod Fair
 pub mod Demand
 pub mod Refusing

@@ -2,7 +2,7 @@
 -- cases of `Stepped`); and a turn is done again, with the same answer, in every sound table that has its record at the place and its
 -- call nowhere else (`repeats`: the search by name finds the place, or a park or an alert gets the place that it proposes).
 -- Assumes nothing.
-use mathlib.Core.Path.{_≡_, refl, sym, ap, _∙_}
+use mathlib.Core.Path.{_≡_, refl, sym, ap, ap₂, _∙_}
 use mathlib.Core.Bool.{Bool, true, false, cond}
 use mathlib.Core.Logic.{⊎-elim}
 use Prim.Native.Nat.{ℕ, suc, _+_, _<_}
@@ -22,7 +22,7 @@ use Rattle.table.specs.Sound.{isSound}
 use Rattle.table.proofs.Calls.{holds-same, holds-occupied, occupied-holds}
 use Rattle.table.proofs.Searches.{found-passes, none-passes, none-found}
 use Rattle.table.proofs.Facts.{facts-of-test}
-use Rattle.table.proofs.Keep.{put}
+use Rattle.table.specs.Ranks.{nextWaiting, put}
 use Rattle.events.specs.declared.Event.{Event}
 use Rattle.events.specs.declared.Answer.{Answer}
 use Rattle.step.specs.declared.Step.{Step}
@@ -32,10 +32,11 @@ use Rattle.events.specs.declared.rule.Signal.{Signal}
 use Rattle.events.specs.declared.rule.Signal.the-variants.{LocalPickup, PickRequest, PickupResult, PickupError, ErrorInRelease, Release, Answered, Expiry}
 use Rattle.events.specs.declared.refusal.Refusal.the-variants.{ChoiceOrTimer}
 use Rattle.step.specs.declared.aim.Aim.the-variants.{To, Nowhere}
+use Rattle.events.specs.declared.turn.Outcome.{Outcome}
 use Rattle.events.specs.Rule.{ruleOf}
 use Rattle.events.specs.Turn.{turnOn, turn}
 use Rattle.events.specs.Sought.{isTimer}
-use Rattle.step.specs.Aim.{indexOf, chosen, aimNamed, aimNew, aimOn, aim, nextWaiting}
+use Rattle.step.specs.Aim.{indexOf, chosen, aimNamed, aimNew, aimOn, aim}
 use Rattle.events.specs.Act.{stayCall}
 use Rattle.step.specs.Step.{settled, stepOf}
 use Rattle.step.specs.Promises.{namesCall, AtOnePlace}
@@ -187,11 +188,14 @@ module _ (t : Table) (size : length (t .places) ≡ 96) (sound : isSound t ≡ t
       → stepOf t e ≡ settled t e p (stayCall k e (recordAt t p)) (turn k (sideAt p) (recordAt t p) e)
   step-at k rule aimed = rw (sound, rule, aimed)
 
+  -- what a signal does to the call that is held here
+  settles : (k : Signal) → Acts k p (recordAt t p) e → {u : Outcome} → turnOn k (sideAt p) (recordAt t p) e ≡ u
+      → settled t e p (recordAt t p .call) (turn (On k) (sideAt p) (recordAt t p) e) ≡ settled t e p (e .call) u
+  settles k h {u} turned =
+      let does : turn (On k) (sideAt p) (recordAt t p) e ≡ u = rw (holds-occupied (e .call) (recordAt t p) (h .held)) turned in
+      ap₂ (settled t e p) (holds-same (e .call) (recordAt t p) (h .held)) does
+
   pub repeats : {a : Answer} {s : Record} → Turned p (recordAt t p) e a s → stepOf t e ≡ record { table = put t p s; answer = a }
   repeats (opened d o) = step-at (Start d) (o .rule) (aim-proposed d o)
-  repeats (closed k first second h turned) =
-      step-at (On k) (h .rule) (aim-named k h)
-      ∙ rw (holds-occupied (e .call) (recordAt t p) (h .held), turned, holds-same (e .call) (recordAt t p) (h .held))
-  repeats (carried k g n m h turned) =
-      step-at (On k) (h .rule) (aim-named k h)
-      ∙ rw (holds-occupied (e .call) (recordAt t p) (h .held), turned, holds-same (e .call) (recordAt t p) (h .held))
+  repeats (closed k first second h turned) = step-at (On k) (h .rule) (aim-named k h) ∙ settles k h turned
+  repeats (carried k g n m h turned) = step-at (On k) (h .rule) (aim-named k h) ∙ settles k h turned

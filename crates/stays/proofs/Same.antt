@@ -9,9 +9,9 @@ use Prim.Native.Nat.{ℕ, _+_}
 use native.Mathlib.Decide.{ℕ-discrete}
 use native.Mathlib.Omega.{arith}
 use lib.ListN.{getD}
-use Rattle.stays.specs.Stays.{Mark, starts, goes-on, ends, Done, Machine, Stay, Stays, whether, longer, others, eventsAt, add, joined, eventsOf, stayByStay, keep, one-if, count, stays, run, done, SameEvents}
+use Rattle.stays.specs.Stays.{In, placesOf, Mark, starts, goes-on, ends, Done, Machine, Stay, Stays, whether, longer, others, eventsAt, add, joined, eventsOf, stayByStay, keep, one-if, count, stays, run, done, SameEvents}
 use Rattle.stays.proofs.Laws.{Laws}
-use Rattle.stays.proofs.Build.{In, Distinct, placesOf, Inv}
+use Rattle.stays.proofs.Build.{Distinct, Inv}
 use Rattle.stays.proofs.Keep.{inv-taken, inv-none, occupied}
 
 module _ {X : Type 0} (f : X → Bool) where

@@ -1,6 +1,6 @@
--- The table of document 01 keeps the laws of stays (`laws`). A table shows its records where it is full and sound; soundness is kept
--- by every step (`keeps-sound`), so refusal 25 never arises. The laws of a turn are those of `Turned`; an accepted event and a turn
--- that is done again are those of `OneTurn`.
+-- The table keeps the laws of stays (`laws`). A table shows its records, and by its ranks the order of the starts, where it is full and sound and
+-- the ranks are those of the order (`Ordered`); soundness is kept by every step (`keeps-sound`), so refusal 25 never arises. The laws of a turn are
+-- those of `Turned`; an accepted event and a turn that is done again are those of `OneTurn`.
 -- Assumes nothing.
 use mathlib.Core.Path.{_≡_, refl, sym, ap, _∙_, subst}
 use mathlib.Core.Logic.{_≢_, ⊎-elim}
@@ -10,37 +10,40 @@ use Prim.Native.Nat.{ℕ, zero, suc, _<_}
 use native.Mathlib.Nat.{not-suc-le-zero, le-of-suc-le-suc}
 use native.Mathlib.Omega.{arith}
 use lib.Dec.{eqb}
-use lib.ListN.{length, getD, set, length-set, List·getD-eq-default}
+use lib.ListN.{length, getD, set, getD-replicate, List·getD-eq-default}
+use lib.Seq.{ext-getD}
 use borrow.Author.Tests.{eqb-true, eq-eqb}
 use Rattle.laws.proofs.Bools.{never, not-both, less-or}
 use Rattle.table.specs.declared.State.the-variants.{HandedOver}
 use Rattle.table.specs.declared.Record.{Record}
 use Rattle.table.specs.declared.Table.{Table}
-use Rattle.table.specs.Places.{freeRecord, blank, recordAt}
+use Rattle.table.specs.declared.Side.{Side}
+use Rattle.table.specs.declared.Side.the-variants.{Position, Line}
+use Rattle.table.specs.Places.{isFree, freeRecord, emptyTable, blank, recordAt}
+use Rattle.table.specs.Ranks.{callsOn, put}
 use Rattle.table.specs.Search.{holds}
 use Rattle.table.specs.Sound.{isSound}
 use Rattle.table.proofs.Calls.{holds-same, holds-occupied}
 use Rattle.table.proofs.Facts.{facts-of-test, empty-sound}
 use Rattle.events.specs.declared.Event.{Event}
 use Rattle.events.specs.declared.Answer.{Answer}
+use Rattle.events.specs.Rule.{ruleOf}
 use Rattle.step.specs.declared.Step.{Step}
 use Rattle.step.specs.Aim.{indexOf}
 use Rattle.step.specs.Step.{stepOf}
 use Rattle.step.proofs.Stepped.{stepped}
 use Rattle.step.proofs.Promises.{keeps-sound, refusal-keeps, accepted-at-one-place}
-use Rattle.stays.specs.ParkTable.{byAnswer, machine}
-use Rattle.stays.proofs.Laws.{Laws}
+use Rattle.stays.specs.Stays.{Mark, starts, goes-on, ends}
+use Rattle.stays.specs.ParkTable.{byAnswer, markBy, machine}
+use Rattle.stays.proofs.Laws.{Laws, arrange}
 use Rattle.stays.proofs.Turned.{Turned, inside, agrees, at-start, at-going, at-end, spends, stays-spent, ends-spent}
 use Rattle.stays.proofs.OneTurn.{took, repeats}
+use Rattle.stays.proofs.Ordered.{Ordered, ordered-starts, ordered-goes-on, ordered-ends}
 
--- ---- a table and its records
+-- ---- a table, its records and the order of the starts
 
-abbrev pub of : List Record → Table
-of cs = record { places = cs }
-
--- the order of the starts leaves no trace in the table
 abbrev pub Shown : Table → List Record → List ℕ → Type 0
-Shown t cs o = (t ≡ of cs) × (length cs ≡ 96) × (isSound (of cs) ≡ true)
+Shown t cs o = (t .places ≡ cs) × Ordered t o
 
 -- inside the table it is the same what a read past its end would give
 read : (l : List Record) (i : ℕ) → i < length l → getD l i freeRecord ≡ getD l i blank
@@ -48,50 +51,98 @@ read [] i h = absurd (not-suc-le-zero h)
 read (r ∷ rs) zero h = refl
 read (r ∷ rs) (suc i) h = read rs i (le-of-suc-le-suc h)
 
-module _ (cs : List Record) (size : length cs ≡ 96) (sound : isSound (of cs) ≡ true) where
+module _ (t : Table) (o : List ℕ) (O : Ordered t o) where
+  abbrev size : length (t .places) ≡ 96
+  size = O .full .0
+
   -- a place that holds a call is inside the table
-  held : (i : ℕ) (c : List ℕ) → holds c (getD cs i freeRecord) ≡ true → (i < 96) × (holds c (recordAt (of cs) i) ≡ true)
+  held : (i : ℕ) (c : List ℕ) → holds c (getD (t .places) i freeRecord) ≡ true → (i < 96) × (holds c (recordAt t i) ≡ true)
   held i c h =
       let in-table : i < 96 =
-      ⊎-elim (λ low. low) (λ out. let past : getD cs i freeRecord ≡ freeRecord = List·getD-eq-default cs freeRecord (omega arith) in never (rw past at h)) (less-or i 96) in
-      (in-table, rw (read cs i (omega arith)) at h)
+      ⊎-elim (λ low. low) (λ out. let past : getD (t .places) i freeRecord ≡ freeRecord = List·getD-eq-default (t .places) freeRecord (omega (arith, size)) in never (rw past at h)) (less-or i 96) in
+      (in-table, rw (read (t .places) i (omega (arith, size))) at h)
 
-  pub one-place : (i j : ℕ) (c : List ℕ) → holds c (getD cs i freeRecord) ≡ true → holds c (getD cs j freeRecord) ≡ true → i ≡ j
+  pub one-place : (i j : ℕ) (c : List ℕ) → holds c (getD (t .places) i freeRecord) ≡ true → holds c (getD (t .places) j freeRecord) ≡ true → i ≡ j
   one-place i j c h k =
       let a = held i c h in
       let b = held j c k in
-      facts-of-test (of cs) size sound .one-place i j (a .0) (b .0)
-      (holds-occupied c (recordAt (of cs) i) (a .1)) (holds-occupied c (recordAt (of cs) j) (b .1))
-      (holds-same c (recordAt (of cs) i) (a .1) ∙ sym (holds-same c (recordAt (of cs) j) (b .1)))
+      facts-of-test t size (O .sound) .one-place i j (a .0) (b .0)
+      (holds-occupied c (recordAt t i) (a .1)) (holds-occupied c (recordAt t j) (b .1))
+      (holds-same c (recordAt t i) (a .1) ∙ sym (holds-same c (recordAt t j) (b .1)))
 
-  -- the records after a step that put one anew
-  shown-after : (e : Event) (p : ℕ) (r : Record) → stepOf (of cs) e .table ≡ of (set cs p r) → Shown (stepOf (of cs) e .table) (set cs p r) []
-  shown-after e p r q = (q, length-set cs p r ∙ size, subst (λ u. isSound u ≡ true) q (keeps-sound (of cs) e size sound))
+  -- a turn, by its mark, keeps the order and the ranks
+  ordered-after : (p : ℕ) (r : Record) (e : Event) (a : Answer) → Turned p (recordAt t p) e a r → isSound (put t p r) ≡ true
+      → (k : Mark) → markBy (ruleOf (e .kind)) (a .state) ≡ k → Ordered (put t p r) (arrange k p o)
+  ordered-after p r e a turned still starts q =
+      let g = at-start turned q in
+      ordered-starts t o O p (inside turned) r still (rw (g .0)) (holds-occupied (e .call) r (g .1))
+  ordered-after p r e a turned still goes-on q =
+      let g = at-going turned q in
+      ordered-goes-on t o O p (inside turned) r still (holds-occupied (e .call) (recordAt t p) (g .0)) (holds-occupied (e .call) r (g .1))
+  ordered-after p r e a turned still ends q =
+      let g = at-end turned q in
+      ordered-ends t o O p (inside turned) r still (holds-occupied (e .call) (recordAt t p) (g .0)) (rw (g .1))
 
   -- ---- a step
 
-  pub kept : (e : Event) → eqb (stepOf (of cs) e .answer .number) 0 ≡ false → stepOf (of cs) e .table ≡ of cs
-  kept e h = refusal-keeps (of cs) e size (λ q. not-both (eq-eqb (stepOf (of cs) e .answer .number) 0 q) h)
+  pub kept : (e : Event) → eqb (stepOf t e .answer .number) 0 ≡ false → stepOf t e .table ≡ t
+  kept e h = refusal-keeps t e (O .full) (λ q. not-both (eq-eqb (stepOf t e .answer .number) 0 q) h)
 
-  abbrev pub TakenAt : Step → Event → ℕ → Type 0
-  TakenAt s e i = (r : Record) × Turned i (getD cs i freeRecord) (byAnswer e (s .answer)) (s .answer) r × Shown (s .table) (set cs i r) []
+  -- the step at a place: its turn, and what the table after it shows
+  abbrev pub TakenAt : List Record → Step → Event → ℕ → Type 0
+  TakenAt cs s e i = (r : Record) × Turned i (getD cs i freeRecord) (byAnswer e (s .answer)) (s .answer) r
+      × Shown (s .table) (set cs i r) (arrange (markBy (ruleOf (e .kind)) (s .answer .state)) i o)
 
-  pub taken-of : (e : Event) → eqb (stepOf (of cs) e .answer .number) 0 ≡ true → TakenAt (stepOf (of cs) e) e (indexOf (stepOf (of cs) e .answer .place .0))
+  pub taken-of : (e : Event) → eqb (stepOf t e .answer .number) 0 ≡ true → TakenAt (t .places) (stepOf t e) e (indexOf (stepOf t e .answer .place .0))
   taken-of e g =
-      let s : Step = stepOf (of cs) e in
+      let s : Step = stepOf t e in
       let number : s .answer .number ≡ 0 = eqb-true (s .answer .number) 0 g in
-      let x = took (of cs) size e s (stepped (of cs) size e) (accepted-at-one-place (of cs) e size number) in
-      let same : getD cs (x .at) freeRecord ≡ getD cs (x .at) blank = read cs (x .at) (omega (arith, inside (x .turned))) in
-      let turned : Turned (x .at) (getD cs (x .at) freeRecord) (byAnswer e (s .answer)) (s .answer) (x .after) = rw same (x .turned) in
-      subst (TakenAt s e) (sym (x .place)) (x .after, turned, shown-after e (x .at) (x .after) (x .table))
+      let x = took t size e s (stepped t size e) (accepted-at-one-place t e (O .full) number) in
+      let same : getD (t .places) (x .at) freeRecord ≡ recordAt t (x .at) = read (t .places) (x .at) (omega (arith, inside (x .turned), size)) in
+      let turned : Turned (x .at) (getD (t .places) (x .at) freeRecord) (byAnswer e (s .answer)) (s .answer) (x .after) = rw same (x .turned) in
+      let still : isSound (put t (x .at) (x .after)) ≡ true = subst (λ u. isSound u ≡ true) (x .table) (keeps-sound t e (O .full) (O .sound)) in
+      let after = ordered-after (x .at) (x .after) (byAnswer e (s .answer)) (s .answer) (x .turned) still (markBy (ruleOf (e .kind)) (s .answer .state)) refl in
+      subst (TakenAt (t .places) s e) (sym (x .place))
+      (x .after, turned, (ap (λ (u : Table). u .places) (x .table), subst (λ u. Ordered u (arrange (markBy (ruleOf (e .kind)) (s .answer .state)) (x .at) o)) (sym (x .table)) after))
 
-  pub again-of : (p : ℕ) (r : Record) (e : Event) (a : Answer) → Turned p (getD cs p freeRecord) e a r
-      → ((j : ℕ) → j ≢ p → ¬ (holds (e .call) (getD cs j freeRecord) ≡ true))
-      → (stepOf (of cs) e .answer ≡ a) × Shown (stepOf (of cs) e .table) (set cs p r) []
+  pub again-of : (p : ℕ) (r : Record) (e : Event) (a : Answer) → Turned p (getD (t .places) p freeRecord) e a r
+      → ((j : ℕ) → j ≢ p → ¬ (holds (e .call) (getD (t .places) j freeRecord) ≡ true))
+      → (stepOf t e .answer ≡ a) × Shown (stepOf t e .table) (set (t .places) p r) (arrange (markBy (ruleOf (e .kind)) (a .state)) p o)
   again-of p r e a turned other =
-      let here : Turned p (recordAt (of cs) p) e a r = rw (read cs p (omega (arith, inside turned))) at turned in
-      let done = repeats (of cs) size sound e p (λ j h n k. other j n (rw (read cs j (omega arith)) k)) here in
-      (ap (λ s. s .answer) done, shown-after e p r (ap (λ s. s .table) done))
+      let here : Turned p (recordAt t p) e a r = rw (read (t .places) p (omega (arith, inside turned, size))) at turned in
+      let done = repeats t size (O .sound) e p (λ j h n k. other j n (rw (read (t .places) j (omega (arith, size))) k)) here in
+      let table : stepOf t e .table ≡ put t p r = ap (λ (s : Step). s .table) done in
+      let still : isSound (put t p r) ≡ true = subst (λ u. isSound u ≡ true) table (keeps-sound t e (O .full) (O .sound)) in
+      let after = ordered-after p r e a here still (markBy (ruleOf (e .kind)) (a .state)) refl in
+      (ap (λ (s : Step). s .answer) done, (ap (λ (u : Table). u .places) table, subst (λ u. Ordered u (arrange (markBy (ruleOf (e .kind)) (a .state)) p o)) (sym table) after))
+
+-- two tables with the same records and the same order of starts are the same
+pub one-table : (t u : Table) (o : List ℕ) → t .places ≡ u .places → Ordered t o → Ordered u o → t ≡ u
+one-table t u o places T U =
+    let ranks : t .ranks ≡ u .ranks =
+    ext-getD 0 (t .ranks) (u .ranks) (T .full .1 ∙ sym (U .full .1)) (λ i h. T .ranks i (omega (arith, h, T .full .1)) ∙ sym (U .ranks i (omega (arith, h, T .full .1)))) in
+    λ i. record { places = places i; ranks = ranks i }
+
+-- the empty table
+empty-record : (j : ℕ) → isFree (recordAt emptyTable j .state) ≡ true
+empty-record j =
+    ⊎-elim (λ h. rw (getD-replicate 96 j freeRecord blank h))
+    (λ h. let past : recordAt emptyTable j ≡ blank = List·getD-eq-default (emptyTable .places) blank h in rw past) (less-or j 96)
+
+pub ordered-empty : Ordered emptyTable []
+ordered-empty = record {
+  full = (refl, refl);
+  sound = empty-sound;
+  distinct = tt;
+  used = λ j i. absurd i;
+  all = λ j h. absurd (not-both (empty-record j) h);
+  calls = λ a. no-calls a;
+  ranks = λ j h. getD-replicate 96 j 0 0 h;
+}
+  where
+    no-calls : (a : Side) → callsOn emptyTable a ≡ 0
+    no-calls Position = refl
+    no-calls Line = refl
 
 -- ---- the laws
 
@@ -116,15 +167,15 @@ laws = record {
   stays-spent = λ h m q. stays-spent h m q;
   ends-spent = λ h m q. ends-spent h m q;
   Shows = Shown;
-  shows-empty = (refl, refl, empty-sound);
-  shows-size = λ h. h .1;
-  shows-one = λ {t} {cs} {o} h. one-place cs (h .1) (h .2);
-  shows-same = λ h k. h .0 ∙ sym (k .0);
-  refused = λ {t} {cs} {o} h e. subst (λ u. eqb (stepOf u e .answer .number) 0 ≡ false → stepOf u e .table ≡ u) (sym (h .0)) (kept cs (h .1) (h .2) e);
-  taken = λ {t} {cs} {o} h e.
-      subst (λ u. eqb (stepOf u e .answer .number) 0 ≡ true → TakenAt cs (h .1) (h .2) (stepOf u e) e (indexOf (stepOf u e .answer .place .0))) (sym (h .0))
-      (taken-of cs (h .1) (h .2) e);
-  again = λ {t} {cs} {o} h {p} {s} {x} turned other.
-      subst (λ u. (stepOf u (x .event) .answer ≡ x .answer) × Shown (stepOf u (x .event) .table) (set cs p s) []) (sym (h .0))
-      (again-of cs (h .1) (h .2) p s (x .event) (x .answer) turned other);
+  shows-empty = (refl, ordered-empty);
+  shows-size = λ {t} {cs} {o} h. sym (ap length (h .0)) ∙ h .1 .full .0;
+  shows-one = λ {t} {cs} {o} h.
+      subst (λ l. (i j : ℕ) (c : List ℕ) → holds c (getD l i freeRecord) ≡ true → holds c (getD l j freeRecord) ≡ true → i ≡ j) (h .0) (one-place t o (h .1));
+  shows-same = λ {t} {u} {cs} {o} h k. one-table t u o (h .0 ∙ sym (k .0)) (h .1) (k .1);
+  refused = λ {t} {cs} {o} h e. kept t o (h .1) e;
+  taken = λ {t} {cs} {o} h e g. subst (λ l. TakenAt t o (h .1) l (stepOf t e) e (indexOf (stepOf t e .answer .place .0))) (h .0) (taken-of t o (h .1) e g);
+  again = λ {t} {cs} {o} h {p} {s} {x}.
+      subst (λ l. Turned p (getD l p freeRecord) (x .event) (x .answer) s → ((j : ℕ) → j ≢ p → ¬ (holds (x .event .call) (getD l j freeRecord) ≡ true))
+      → (stepOf t (x .event) .answer ≡ x .answer) × Shown (stepOf t (x .event) .table) (set l p s) (arrange (markBy (ruleOf (x .event .kind)) (x .answer .state)) p o)) (h .0)
+      (again-of t o (h .1) p s (x .event) (x .answer));
 }

@@ -1,8 +1,9 @@
--- THE DEMAND, stay by stay, on one page: what is promised of every list of events, from the empty table of document 01. Each
+-- THE DEMAND, stay by stay, on one page: what is promised of every list of events, from the empty table of document 01, with the ranks of document 02's Q-4. Each
 -- statement is proved in `proofs/Demand.antt` under the name that stands beside it here. The words are those of `Stays.antt`, at the machine
 -- of `ParkTable.antt`.
 -- Assumes nothing.
 use mathlib.Core.Path.{_≡_}
+use mathlib.Core.Logic.{_⊎_}
 use mathlib.Core.List.{List, [], _∷_, _++_, map}
 use Prim.Native.Nat.{ℕ}
 use Rattle.table.specs.declared.Place.{Place}
@@ -17,7 +18,9 @@ use Rattle.events.specs.declared.rule.Signal.the-variants.{PickRequest, PickupR
 use Rattle.events.specs.Rule.{ruleOf}
 use Rattle.events.specs.Reply.{replies, RepliesOnce}
 use Rattle.step.specs.Edges.{event}
-use Rattle.stays.specs.Stays.{Done, Stays, Every, none, run, stays, allStays, stayByStay, Rearranges, SameEvents, OneResult}
+use Rattle.step.specs.Step.{stepOf}
+use Rattle.step.specs.Promises.{IsAccepted, choiceOf, Waits}
+use Rattle.stays.specs.Stays.{In, Before, placesOf, Done, Stays, Every, none, final, run, stays, allStays, stayByStay, Rearranges, SameEvents, OneResult}
 use Rattle.stays.specs.ParkTable.{machine}
 
 -- an accepted event, by name, with its answer
@@ -115,7 +118,26 @@ AllTell before (x ∷ xs) = TellsRequester before x × AllTell (before ++ (x ∷
 abbrev pub TellsItsRequester : Type 0
 TellsItsRequester = (es : List Event) → Every (AllTell []) (allStays machine (staysOf es))
 
--- ---- (f): in which order the running stays come
+-- ---- (f): who is served first (document 02, Q-4)
+
+-- the places of the running stays, in the order in which these began
+abbrev pub runningPlaces : List Event → List ℕ
+runningPlaces es = placesOf (staysOf es .running)
+
+-- a call that waits on a side, is the one that is answered, and began its stay before every other that waits there
+pub record IsFirst (es : List Event) (a : Side) (x : Answer) : Type 0 where
+  pub at : ℕ
+  pub place : x .place ≡ placeAt at
+  pub runs : In at (runningPlaces es)
+  pub waits : Waits (final machine emptyTable es) a at
+  pub first : (j : ℕ) → Waits (final machine emptyTable es) a j → j ≡ at ⊎ Before at j (runningPlaces es)
+
+-- `serves-first`: after any events, a pickup with choice 1 or 2 that is accepted takes the call whose stay began first, of all that wait on that side
+abbrev pub ServesFirst : Type 0
+ServesFirst = (es : List Event) (e : Event) (a : Side) → (e .kind ≡ 3) ⊎ (e .kind ≡ 4) → e .choice ≡ choiceOf a
+    → IsAccepted (final machine emptyTable es) e → IsFirst es a (stepOf (final machine emptyTable es) e .answer)
+
+-- ---- (g): in which order the running stays come
 
 -- a park that proposes 2, and after it one that proposes 1
 abbrev pub twoParks : List Event

@@ -2,6 +2,7 @@
 -- (a fold over the accepted events), and the three parts of the demand that every machine with the laws of `proofs/Laws.antt` meets.
 -- Assumes nothing.
 use mathlib.Core.Path.{_≡_}
+use mathlib.Core.Logic.{_⊎_}
 use mathlib.Core.Bool.{Bool, true, false}
 use mathlib.Core.List.{List, [], _∷_, _++_, map}
 use Prim.Native.Nat.{ℕ, _+_, _≤_}
@@ -52,6 +53,16 @@ abbrev pub one-if : Bool → ℕ
 one-if true = 1
 one-if false = 0
 
+-- a number is in a list
+abbrev pub In : ℕ → List ℕ → Type 0
+In j [] = ⊥
+In j (p ∷ ps) = (j ≡ p) ⊎ In j ps
+
+-- one stands before the other
+pub data Before (i j : ℕ) : List ℕ → Type 0 where
+  first : {p : ℕ} {ps : List ℕ} → i ≡ p → In j ps → Before i j (p ∷ ps)
+  later : {p : ℕ} {ps : List ℕ} → Before i j ps → Before i j (p ∷ ps)
+
 module _ {X : Type 0} where
   -- each element is so
   abbrev pub Every : (X → Type 0) → List X → Type 0
@@ -66,6 +77,11 @@ module _ {X : Type 0} where
   abbrev pub others : ℕ → List (Stay X) → List (Stay X)
   others p [] = []
   others p (s ∷ ss) = whether (ℕ-discrete p (s .at)) (others p ss) (s ∷ others p ss)
+
+  -- the places of stays, in their order
+  abbrev pub placesOf : List (Stay X) → List ℕ
+  placesOf [] = []
+  placesOf (s ∷ ss) = s .at ∷ placesOf ss
 
   -- the events of the stay at this place
   abbrev pub eventsAt : ℕ → List (Stay X) → List X

@@ -1,7 +1,7 @@
 -- The index that an event is for: it is in the table; a park or an alert gets a free place of its side, and its call is nowhere
 -- else; an event that names a call gets the place that holds it, or refusal 5 where none does.
 -- Assumes nothing.
-use mathlib.Core.Path.{_≡_, refl, _∙_}
+use mathlib.Core.Path.{_≡_, refl, ap, _∙_}
 use mathlib.Core.Bool.{Bool, true, false, cond}
 use mathlib.Core.List.{List}
 use mathlib.Core.Logic.{⊎-elim}
@@ -19,9 +19,10 @@ use Rattle.table.specs.declared.Side.the-variants.{Position, Line}
 use Rattle.table.specs.declared.Table.{Table}
 use Rattle.table.specs.declared.Found.{Found}
 use Rattle.table.specs.declared.Found.the-variants.{At, Nothing}
-use Rattle.table.specs.Places.{stateNumber, sameState, isFree, sameSide, sideOf, isOf, sideAt, waitingOn, recordAt}
+use Rattle.table.specs.Places.{stateNumber, sameState, isFree, sameSide, sideOf, isOf, sideAt, placeAt, recordAt}
 use Rattle.table.specs.Search.{holds, isAt, findCall, lowestIn}
 use Rattle.table.proofs.Searches.{found-passes, none-found}
+use Rattle.table.proofs.RankLaws.{side-is, found-below}
 use Rattle.events.specs.declared.Event.{Event}
 use Rattle.events.specs.declared.rule.Signal.{Signal}
 use Rattle.events.specs.declared.rule.Rule.{Rule}
@@ -32,16 +33,11 @@ use Rattle.events.specs.declared.refusal.Refusal.the-variants.{ChoiceOrTimer, S
 use Rattle.step.specs.declared.aim.Aim.{Aim}
 use Rattle.step.specs.declared.aim.Aim.the-variants.{To, Nowhere}
 use Rattle.events.specs.Sought.{isTimer}
-use Rattle.step.specs.Aim.{aimAt, indexOf, isProposed, chosen, unlessHeld, aimNew, aimNamed, aimPickup, aimOn, aim, nextWaiting}
+use Rattle.table.specs.Ranks.{nextWaiting}
+use Rattle.step.specs.Aim.{aimAt, indexOf, isProposed, chosen, unlessHeld, aimNew, aimNamed, aimPickup, aimOn, aim}
 use Rattle.step.specs.Promises.{namesCall}
 
--- ---- sides and states by their numbers
-
-pub side-is : (a b : Side) → sameSide a b ≡ true → a ≡ b
-side-is Position Position h = refl
-side-is Position Line h = never h
-side-is Line Position h = never h
-side-is Line Line h = refl
+-- ---- states by their numbers
 
 pub free-number : (s : State) → isFree s ≡ eqb (stateNumber s) 0
 free-number Free = refl
@@ -87,9 +83,17 @@ proposed-side d (suc k) h =
           (less-or k 64),
     )
 
+-- the place of an index tells the index
+pub same-index : (i j : ℕ) → i < 96 → j < 96 → placeAt i ≡ placeAt j → i ≡ j
+same-index i j hi hj q =
+    let ti : ltb i 96 ≡ true = lt-ltb i 96 hi in
+    let tj : ltb j 96 ≡ true = lt-ltb j 96 hj in
+    let p : i + 1 ≡ j + 1 = ap (λ x. x .0) (rw (ti, tj) at q) in
+    omega arith
+
 -- ---- aims
 
-aim-at-to : (f : Found) (w : Refusal) (i : ℕ) → aimAt f w ≡ To i → f ≡ At i
+pub aim-at-to : (f : Found) (w : Refusal) (i : ℕ) → aimAt f w ≡ To i → f ≡ At i
 aim-at-to (At j) w i h = let same : j ≡ i = cc in rw same
 aim-at-to Nothing w i h = absurd (let z : _≡_ {A = ℕ} 0 1 = cc in omega arith)
 
@@ -128,7 +132,7 @@ module _ (t : Table) (size : length (t .places) ≡ 96) where
   aim-named e i h = found-passes t size (λ j. holds (e .call)) i (aim-at-to (findCall t (e .call)) CallNotHeld i h)
 
   next-inside : (a : Side) (i : ℕ) → aimAt (nextWaiting t a) NothingWaits ≡ To i → i < 96
-  next-inside a i h = found-passes t size (isAt a (waitingOn a)) i (aim-at-to (nextWaiting t a) NothingWaits i h) .0
+  next-inside a i h = found-below t a 96 i (aim-at-to (nextWaiting t a) NothingWaits i h)
 
   -- an aim that names a call where the test passes
   if-named : (e : Event) (i : ℕ) (b : Bool) (other : Aim) → (other ≡ To i → i < 96) → cond b (aimNamed t e) other ≡ To i

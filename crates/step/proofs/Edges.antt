@@ -1,8 +1,11 @@
 -- The edges are right: the definitions compute each answer and each table.
 -- Assumes nothing.
 use mathlib.Core.Path.{refl}
+use Rattle.table.specs.Search.{below}
+use Rattle.table.specs.Ranks.{earliest, closedUp}
 use Rattle.step.specs.Edges.{AllRight, edges}
 
 pub edges-right : AllRight edges
+unfolding below earliest closedUp
 edges-right =
-    (refl, (refl, (refl, (refl, (refl, (refl, (refl, (refl, (refl, (refl, (refl, (refl, (refl, (refl, (refl, (refl, (refl, (refl, (refl, (refl, (refl, (refl, (refl, (refl, (refl, tt)))))))))))))))))))))))))
+    (refl, (refl, (refl, (refl, (refl, (refl, (refl, (refl, (refl, (refl, (refl, (refl, (refl, (refl, (refl, (refl, (refl, (refl, (refl, (refl, (refl, (refl, (refl, (refl, (refl, (refl, (refl, (refl, (refl, (refl, (refl, (refl, (refl, tt)))))))))))))))))))))))))))))))))

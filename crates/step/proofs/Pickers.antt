@@ -16,7 +16,8 @@ use Rattle.table.specs.declared.Side.the-variants.{Position, Line}
 use Rattle.table.specs.declared.Record.{Record}
 use Rattle.table.specs.declared.Table.{Table}
 use Rattle.table.specs.Places.{isFree, sideAt, freeRecord, recordAt}
-use Rattle.table.proofs.Keep.{put, put-here, put-other}
+use Rattle.table.specs.Ranks.{put}
+use Rattle.table.proofs.Keep.{put-here, put-other}
 use Rattle.events.specs.declared.Event.{Event}
 use Rattle.events.specs.declared.rule.Rule.{Rule}
 use Rattle.events.specs.declared.rule.Rule.the-variants.{On}
@@ -118,8 +119,8 @@ module _ (t : Table) (size : length (t .places) ≡ 96) (e : Event) where
       (λ other. absurd (some (rw turn at (silent k (sideAt i) (recordAt t i) e other)))) (remote-or-not (recordAt t i .state))
 
 pub picker-told-once : PickerToldOnce
-picker-told-once t e j size left = once t size e j (left .was) (stepOf t e) (stepped t size e) (left .is-not)
+picker-told-once t e j all left = once t (all .0) e j (left .was) (stepOf t e) (stepped t (all .0) e) (left .is-not)
 
 pub replies-have-cause : RepliesHaveCause
-replies-have-cause t e size some =
-    ⊎-elim (λ x. leaves (x .0) (x .1) (x .2)) (λ x. refused (x .0) (x .1)) (cause t size e (stepOf t e) (stepped t size e) some)
+replies-have-cause t e all some =
+    ⊎-elim (λ x. leaves (x .0) (x .1) (x .2)) (λ x. refused (x .0) (x .1)) (cause t (all .0) e (stepOf t e) (stepped t (all .0) e) some)

@@ -1,6 +1,6 @@
 -- The promises of `specs/Promises.antt`, each by the four cases of `Stepped`.
 -- Assumes nothing.
-use mathlib.Core.Path.{_≡_, refl, sym, ap, ap₂, _∙_}
+use mathlib.Core.Path.{_≡_, refl, sym, ap, ap₂, subst, _∙_}
 use mathlib.Core.Bool.{Bool, true, false, cond, not, _&&_, true≢false}
 use mathlib.Core.List.{List}
 use mathlib.Core.Logic.{_⊎_, inl, inr, ⊎-elim}
@@ -17,13 +17,13 @@ use Rattle.table.specs.declared.Record.{Record}
 use Rattle.table.specs.declared.Table.{Table}
 use Rattle.table.specs.declared.Found.{Found}
 use Rattle.table.specs.declared.Found.the-variants.{At, Nothing}
-use Rattle.table.specs.Places.{stateNumber, isFree, sideAt, placeAt, noInvoke, freeRecord, recordAt}
+use Rattle.table.specs.Places.{stateNumber, isFree, sideAt, placeAt, noInvoke, freeRecord, recordAt, rankAt}
 use Rattle.table.specs.Search.{holds, findCall}
 use Rattle.table.specs.Sound.{isSound, fitsSide, Sound}
 use Rattle.table.proofs.Calls.{holds-same, holds-occupied, occupied-holds}
 use Rattle.table.proofs.Searches.{found-passes, none-passes}
 use Rattle.table.proofs.Facts.{facts-of-test, test-of-facts, free-state, free-fits}
-use Rattle.table.proofs.Keep.{put, put-size, put-here, put-other, put-sound}
+use Rattle.table.proofs.Keep.{put-size, put-here, put-other, put-sound, rank-new, rank-kept, rank-freed, ranks-stay, ranks-drop}
 use Rattle.events.specs.declared.Event.{Event}
 use Rattle.step.specs.declared.Step.{Step}
 use Rattle.events.specs.declared.rule.Rule.{Rule}
@@ -42,14 +42,15 @@ use Rattle.step.specs.declared.aim.Aim.{Aim}
 use Rattle.step.specs.declared.aim.Aim.the-variants.{To, Nowhere}
 use Rattle.events.specs.Rule.{ruleOf}
 use Rattle.events.specs.Turn.{heldRecord, stageOf, greeting, isOutstanding, turnOn, turn}
-use Rattle.step.specs.Aim.{aim, aimAt, aimNamed, aimOn, nextWaiting}
+use Rattle.table.specs.Ranks.{nextWaiting, callsOn, put}
+use Rattle.step.specs.Aim.{aim, aimAt, aimNamed, aimOn}
 use Rattle.events.specs.Act.{stayCall}
 use Rattle.events.proofs.Released.{error-in-release}
 use Rattle.events.proofs.Refusals.{refused-not-0}
 use Rattle.step.specs.Step.{refusedBy, done, settled, carriedOut, stepOf}
-use Rattle.step.specs.Promises.{IsAccepted, KeepsSound, RefusalKeeps, Move, starts, AtOnePlace, AcceptedAtOnePlace, one-if, T3RunsThrough, namesCall, byName, MatchedByCall, NotHeldIs5, StartAnswersItsCall, onlyNamed, IgnoresOtherFields, ReleaseFrees, RemoteResultHolds}
-use Rattle.step.proofs.Aims.{aim-on, aim-lost, free-number}
-use Rattle.step.proofs.Turns.{stage-fits, waiting-offered, stage-occupied, stage-connection, move-end, move-on, result-in-4}
+use Rattle.step.specs.Promises.{Full, IsAccepted, KeepsSound, RefusalKeeps, Move, starts, rankOf, AtOnePlace, AcceptedAtOnePlace, one-if, T3RunsThrough, namesCall, byName, MatchedByCall, NotHeldIs5, StartAnswersItsCall, onlyNamed, IgnoresOtherFields, ReleaseFrees, RemoteResultHolds}
+use Rattle.step.proofs.Aims.{same-index, aim-on, aim-lost, free-number}
+use Rattle.step.proofs.Turns.{stage-fits, waiting-offered, stage-occupied, stage-connection, move-end, move-on, left-held, result-in-4}
 use Rattle.step.proofs.Timers.{t3-started}
 use Rattle.step.proofs.Stepped.{Reached, Stepped, kept, begun, ended, went-on, refused-stays, stepped}
 
@@ -74,7 +75,10 @@ parks-kind kind =
     first true rest p = refl
     first false rest p = p
 
-module _ (t : Table) (size : length (t .places) ≡ 96) (e : Event) where
+module _ (t : Table) (all : Full t) (e : Event) where
+  abbrev size : length (t .places) ≡ 96
+  size = all .0
+
   -- ---- the table after
 
   full : (s : Step) → Stepped t size e s → length (s .table .places) ≡ 96
@@ -88,7 +92,7 @@ module _ (t : Table) (size : length (t .places) ≡ 96) (e : Event) where
       → ((j : ℕ) → j < 96 → (j ≡ i → ⊥) → isFree (recordAt t j .state) ≡ false → call ≡ recordAt t j .call → ⊥)
       → Sound (put t i (heldRecord (sideAt i) g call n))
   stage-sound s i inside g call n alone =
-      put-sound t size i inside (heldRecord (sideAt i) g call n) s (stage-fits (sideAt i) g)
+      put-sound t size i inside (heldRecord (sideAt i) g call n) (all .1) s (stage-fits (sideAt i) g)
       (λ f. absurd (not-both f (stage-occupied (sideAt i) g)))
       (stage-connection (sideAt i) g)
       (λ j hj ne f fj c. alone j hj ne fj c)
@@ -99,7 +103,7 @@ module _ (t : Table) (size : length (t .places) ≡ 96) (e : Event) where
       stage-sound S i (room .inside) Waits (e .call) noInvoke (λ j hj ne fj c.
       not-both (occupied-holds (e .call) (recordAt t j) fj (sym c)) (none-passes t size (λ k. holds (e .call)) (room .absent) j hj))
   sound-after s (ended k i first second at turn) S =
-      put-sound t size i (at .inside) freeRecord S (free-fits (sideAt i)) (λ f. refl) (λ f. refl) (λ j hj ne f fj c. true≢false f)
+      put-sound t size i (at .inside) freeRecord (all .1) S (free-fits (sideAt i)) (λ f. refl) (λ f. refl) (λ j hj ne f fj c. true≢false f)
   sound-after s (went-on k i g n m at turn) S =
       stage-sound S i (at .inside) g (recordAt t i .call) n (λ j hj ne fj c.
       ne (sym (S .one-place i j (at .inside) hj (at .occupied) fj c)))
@@ -123,6 +127,9 @@ module _ (t : Table) (size : length (t .places) ≡ 96) (e : Event) where
         inside = inside;
         place = refl;
         others = put-other t size i inside new;
+        ranks-stay = λ held. ranks-stay t size i inside new (all .1) (rw here at held);
+        ranks-drop = λ freed. ranks-drop t size i inside new (all .1) (left-held (recordAt t i .state) (new .state) move (rw here at freed)) (rw here at freed);
+        rank = rw here (own-rank (isFree (recordAt t i .state)) refl (isFree (new .state)) refl);
         state = rw here;
         move = rw here move;
         call-before = before;
@@ -130,6 +137,12 @@ module _ (t : Table) (size : length (t .places) ≡ 96) (e : Event) where
         started = rw here;
         stopped = rw here;
       }
+    where
+      own-rank : (b : Bool) → isFree (recordAt t i .state) ≡ b → (c : Bool) → isFree (new .state) ≡ c → rankAt (put t i new) i ≡ rankOf b c (callsOn t (sideAt i)) (rankAt t i)
+      own-rank true p true q = absurd (not-both p (left-held (recordAt t i .state) (new .state) move q))
+      own-rank true p false q = rank-new t size i inside new (all .1) q p
+      own-rank false p true q = rank-freed t size i inside new (all .1) p q
+      own-rank false p false q = rank-kept t size i inside new (all .1) q p
 
   at-one-place : (s : Step) → Stepped t size e s → s .answer .number ≡ 0 → AtOnePlace t s
   at-one-place s (kept w) h = absurd (refused-not-0 w h)
@@ -189,14 +202,6 @@ module _ (t : Table) (size : length (t .places) ≡ 96) (e : Event) where
 
   -- ---- matching
 
-  -- the place of an index tells the index
-  same-index : (i j : ℕ) → i < 96 → j < 96 → placeAt i ≡ placeAt j → i ≡ j
-  same-index i j hi hj q =
-      let ti : ltb i 96 ≡ true = lt-ltb i 96 hi in
-      let tj : ltb j 96 ≡ true = lt-ltb j 96 hj in
-      let p : i + 1 ≡ j + 1 = ap (λ x. x .0) (rw (ti, tj) at q) in
-      omega arith
-
   -- the signal reached the place that holds the event's call
   reached-call : (k : Signal) (i : ℕ) → Reached t e k i → byName e ≡ true → holds (e .call) (recordAt t i) ≡ true
   reached-call k i at named = aim-on t size k e i (at .aimed) .1 (rw (at .rule) at named)
@@ -244,7 +249,8 @@ module _ (t : Table) (size : length (t .places) ≡ 96) (e : Event) where
             let busy = holds-occupied (e .call) (recordAt t j) held in
             let call : recordAt t i .call ≡ recordAt t j .call = holds-same (e .call) (recordAt t i) (h .1) ∙ sym (holds-same (e .call) (recordAt t j) held) in
             let same : i ≡ j = facts-of-test t size sound .one-place i j (h .0) inside (holds-occupied (e .call) (recordAt t i) (h .1)) busy call in
-            rw (same, busy) turned
+            let done-there : turn (On k) (sideAt j) (recordAt t j) e ≡ turnOn k (sideAt j) (recordAt t j) e = rw busy in
+            rw same (subst (λ u. P (settled t e j (recordAt t j .call) u)) (sym done-there) turned)
         by Nothing q = absurd (not-both held (none-passes t size (λ n. holds (e .call)) q j inside))
 
     frees : (k : Signal) (m : Message) → ruleOf (e .kind) ≡ On k → aimOn (nextWaiting t) k t e ≡ aimNamed t e
@@ -287,27 +293,27 @@ module _ (t : Table) (size : length (t .places) ≡ 96) (e : Event) where
         (result-in-4 (sideAt i) (recordAt t i) e (rw same at q))
 
 pub keeps-sound : KeepsSound
-keeps-sound t e size sound =
-    test-of-facts (stepOf t e .table) (full t size e (stepOf t e) (stepped t size e))
-    (sound-after t size e (stepOf t e) (stepped t size e) (facts-of-test t size sound))
+keeps-sound t e all sound =
+    test-of-facts (stepOf t e .table) (full t all e (stepOf t e) (stepped t (all .0) e))
+    (sound-after t all e (stepOf t e) (stepped t (all .0) e) (facts-of-test t (all .0) sound))
 
 pub refusal-keeps : RefusalKeeps
-refusal-keeps t e size refused = table-kept t size e (stepOf t e) (stepped t size e) refused
+refusal-keeps t e all refused = table-kept t all e (stepOf t e) (stepped t (all .0) e) refused
 
 pub accepted-at-one-place : AcceptedAtOnePlace
-accepted-at-one-place t e size accepted = at-one-place t size e (stepOf t e) (stepped t size e) accepted
+accepted-at-one-place t e all accepted = at-one-place t all e (stepOf t e) (stepped t (all .0) e) accepted
 
 pub t3-runs-through : T3RunsThrough
-t3-runs-through t e size accepted low = t3 t size e (stepOf t e) (stepped t size e) accepted low
+t3-runs-through t e all accepted low = t3 t all e (stepOf t e) (stepped t (all .0) e) accepted low
 
 pub matched-by-call : MatchedByCall
-matched-by-call t e size accepted named = matched t size e (stepOf t e) (stepped t size e) accepted named
+matched-by-call t e all accepted named = matched t all e (stepOf t e) (stepped t (all .0) e) accepted named
 
 pub not-held-is-5 : NotHeldIs5
-not-held-is-5 t e size sound named gone = lost-is-5 t size e named gone sound
+not-held-is-5 t e all sound named gone = lost-is-5 t all e named gone sound
 
 pub start-answers-its-call : StartAnswersItsCall
-start-answers-its-call t e d size accepted start = own-call t size e d start (stepOf t e) (stepped t size e) accepted
+start-answers-its-call t e d all accepted start = own-call t all e d start (stepOf t e) (stepped t (all .0) e) accepted
 
 -- aim, turn, call and refusal read no other field than those that the rule names
 module _ (e : Event) where
@@ -384,7 +390,7 @@ ignores-other-fields t e =
     ap₂ (λ x y. cond (isSound t) x y) carried (same-refusal e t k refl TableUnsound)
 
 pub release-frees : ReleaseFrees
-release-frees t e size sound kind j inside held = release-freeing t size e sound j inside held kind
+release-frees t e all sound kind j inside held = release-freeing t all e sound j inside held kind
 
 pub remote-result-holds : RemoteResultHolds
-remote-result-holds t e size accepted kind = holding t size e kind (stepOf t e) (stepped t size e) accepted
+remote-result-holds t e all accepted kind = holding t all e kind (stepOf t e) (stepped t (all .0) e) accepted

@@ -86,9 +86,9 @@ done-small t i new call first second = record {
 }
 
 pub answers-small : AnswersSmall
-answers-small t e size = by (stepOf t e) (stepped t size e)
+answers-small t e all = by (stepOf t e) (stepped t (all .0) e)
   where
-    by : (s : Step) → Stepped t size e s → Small (s .answer)
+    by : (s : Step) → Stepped t (all .0) e s → Small (s .answer)
     by s (kept w) = saying-small (refusalNumber w) (refusalMessage (ruleOf (e .kind)) w (e .connection)) (numbered w .to)
     by s (begun d i sound rule room) = done-small t i (heldRecord (sideAt i) Waits (e .call) noInvoke) (e .call) (greeting d) NoMessage
     by s (ended k i first second at turn) = done-small t i freeRecord (recordAt t i .call) first second

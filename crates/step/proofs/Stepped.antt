@@ -7,11 +7,10 @@ use mathlib.Core.List.{List}
 use Prim.Native.Nat.{ℕ, _<_}
 use native.Mathlib.Omega.{arith}
 use lib.ListN.{length}
-use lib.Seq.{set-getD}
 use Rattle.table.specs.declared.Invoke.{Invoke}
 use Rattle.table.specs.declared.Side.{Side}
 use Rattle.table.specs.declared.Table.{Table}
-use Rattle.table.specs.Places.{isFree, sideAt, noInvoke, freeRecord, blank, recordAt}
+use Rattle.table.specs.Places.{isFree, sideAt, noInvoke, freeRecord, recordAt}
 use Rattle.table.specs.Sound.{isSound}
 use Rattle.events.specs.declared.Event.{Event}
 use Rattle.step.specs.declared.Step.{Step}
@@ -32,7 +31,9 @@ use Rattle.events.specs.Rule.{ruleOf}
 use Rattle.events.specs.Answers.{declined}
 use Rattle.events.specs.Taken.{outcomeNumber}
 use Rattle.events.specs.Turn.{heldRecord, greeting, turnOn}
-use Rattle.step.specs.Aim.{aim, aimOn, nextWaiting}
+use Rattle.table.specs.Ranks.{nextWaiting}
+use Rattle.table.proofs.Keep.{put-same}
+use Rattle.step.specs.Aim.{aim, aimOn}
 use Rattle.step.specs.Step.{refusedBy, done, settled, carriedOut, stepOf}
 use Rattle.step.proofs.Aims.{Room, aim-new, aim-on}
 
@@ -61,7 +62,7 @@ settled-number t e i call (Becomes g n m) = refl
 
 -- a refusal leaves the record as it was, and so the table
 pub refused-stays : (t : Table) (e : Event) (i : ℕ) (call : List ℕ) (w : Refusal) → refusedBy t e w ≡ settled t e i call (Refused w)
-refused-stays t e i call w j = record { table = record { places = sym (set-getD (t .places) i blank) j }; answer = declined e w }
+refused-stays t e i call w j = record { table = sym (put-same t i) j; answer = declined e w }
 
 module _ (t : Table) (size : length (t .places) ≡ 96) (e : Event) where
   module _ (s : Signal) (i : ℕ) (reached : isFree (recordAt t i .state) ≡ false → Reached t e s i) where

@@ -5,6 +5,7 @@ use mathlib.Core.Bool.{Bool, true, false, true≢false}
 use mathlib.Core.Logic.{_⊎_, inl, inr}
 use Prim.Native.Nat.{ℕ}
 use native.Mathlib.Omega.{arith}
+use Rattle.laws.proofs.Bools.{never, not-both}
 use Rattle.table.specs.declared.Invoke.{Invoke}
 use Rattle.table.specs.declared.State.{State}
 use Rattle.table.specs.declared.State.the-variants.{Free, ParkWaiting, LineWaiting, Requested, RemoteRequested, HandedOver}
@@ -24,7 +25,7 @@ use Rattle.events.specs.declared.turn.Stage.the-variants.{Waits, AskedHere, Ask
 use Rattle.events.specs.declared.turn.Outcome.the-variants.{Refused, Becomes}
 use Rattle.events.specs.Turn.{stageBy, stageOf, stateAt, connectionAt, isOutstanding, ifOutstanding, turnOn}
 use Rattle.events.proofs.Outcomes.{GoesOn, asked-here, asked-from, handed-over, turned-down, does}
-use Rattle.step.specs.Promises.{offered, Move, goes-on, hands-over, ends, is-left}
+use Rattle.step.specs.Promises.{offered, Move, starts, goes-on, hands-over, ends, is-left}
 
 pub stage-fits : (a : Side) (g : Stage) → fitsSide a (stateAt a g) ≡ true
 stage-fits Position Waits = refl
@@ -64,6 +65,22 @@ move-end LineWaiting h = ends refl
 move-end Requested h = ends refl
 move-end RemoteRequested h = ends refl
 move-end HandedOver h = is-left
+
+offered-busy : (s : State) → offered s ≡ true → isFree s ≡ false
+offered-busy Free o = never o
+offered-busy ParkWaiting o = refl
+offered-busy LineWaiting o = refl
+offered-busy Requested o = refl
+offered-busy RemoteRequested o = refl
+offered-busy HandedOver o = refl
+
+-- a place that becomes free was held
+pub left-held : (s u : State) → Move s u → isFree u ≡ true → isFree s ≡ false
+left-held s u (starts o) f = absurd (not-both f (offered-busy u o))
+left-held s u (goes-on o n) f = offered-busy s o
+left-held s u (hands-over o) f = offered-busy s o
+left-held s u (ends o) f = offered-busy s o
+left-held s u is-left f = refl
 
 move-stage : (a : Side) (g : Stage) {s : State} → offered s ≡ true → Move s (stateAt a g)
 move-stage a Waits h = goes-on h (waiting-offered a)

@@ -10,7 +10,7 @@ use Rattle.table.specs.declared.Side.the-variants.{Position, Line}
 use Rattle.table.specs.declared.Table.{Table}
 use Rattle.table.specs.declared.Found.{Found}
 use Rattle.table.specs.declared.Found.the-variants.{At, Nothing}
-use Rattle.table.specs.Places.{isFree, isOf, sideOf, waitingOn, recordAt}
+use Rattle.table.specs.Places.{isFree, isOf, sideOf, recordAt}
 use Rattle.table.specs.Search.{findCall, lowestIn}
 use Rattle.events.specs.declared.Event.{Event}
 use Rattle.events.specs.declared.rule.Rule.{Rule}
@@ -56,8 +56,8 @@ aimNew d t e = unlessHeld (findCall t (e .call)) (aimAt (chosen t d (e .place)) 
 abbrev pub aimNamed : Table → Event → Aim
 aimNamed t e = aimAt (findCall t (e .call)) CallNotHeld
 
--- kinds 3 and 4: "Choice 0 takes the named call; 1 the lowest position in state 1; 2 the lowest line in state 2". Which of the
--- waiting calls of a side is served is what `next` says.
+-- kinds 3 and 4: "Choice 0 takes the named call"; 1 a waiting position, 2 a waiting line. Which of the waiting calls of a side is served is what
+-- `next` says: document 02, Q-4 (`nextWaiting`, table).
 abbrev pub aimPickup : (Side → Found) → Table → Event → Aim
 aimPickup next t e =
     cond (eqb (e .choice) 0) (aimNamed t e)
@@ -83,10 +83,6 @@ abbrev pub aim : (Side → Found) → Rule → Table → Event → Aim
 aim next (Start d) t e = aimNew d t e
 aim next (On s) t e = aimOn next s t e
 aim next Unknown t e = Nowhere UnknownKind
-
--- the waiting place of a side that is served: the lowest
-abbrev pub nextWaiting : Table → Side → Found
-nextWaiting t a = lowestIn t a (waitingOn a)
 
 -- the same by what the event looks for (`aim-sought`, proofs/Soughts.antt)
 abbrev pub aimFor : (Side → Found) → Table → Event → Sought → Aim

@@ -1,4 +1,4 @@
--- The twelve edges (document 01, "Twelve edges to prove") and, after them, those of document 02's Q-1 and Q-3: each from the table that it
+-- The twelve edges (document 01, "Twelve edges to prove") and, after them, those of document 02's Q-1, Q-3 and Q-4: each from the table that it
 -- names, with the whole answer and the whole table after it, as one list under one statement. `proofs/Edges.antt` computes them from the definitions.
 -- Assumes nothing.
 use mathlib.Core.Path.{_≡_}
@@ -24,9 +24,14 @@ callOf n = replicate 15 0 ++ (n ∷ [])
 abbrev pub held : State → ℕ → ℕ → Record
 held s c n = record { state = s; call = callOf 1; connection = record { 0 = c }; count = record { 0 = n } }
 
--- the table with one occupied place
+-- the table with one occupied place, whose call is the first of its side
 abbrev pub with : ℕ → Record → Table
-with place r = record { places = set (emptyTable .places) (indexOf place) r }
+with place r = record { places = set (emptyTable .places) (indexOf place) r; ranks = set (emptyTable .ranks) (indexOf place) 1 }
+
+-- k, k - 1, .. 1
+abbrev pub down : ℕ → List ℕ
+down zero = []
+down (suc k) = suc k ∷ down k
 
 -- k parked calls: k, k - 1, .. 1
 abbrev pub parked : ℕ → List Record
@@ -34,7 +39,22 @@ parked zero = []
 parked (suc k) = record { state = ParkWaiting; call = callOf (suc k); connection = noConnection; count = record { 0 = 0 } } ∷ parked k
 
 abbrev pub allTaken : Table
-allTaken = record { places = parked 64 ++ replicate 32 freeRecord }
+allTaken = record { places = parked 64 ++ replicate 32 freeRecord; ranks = down 64 ++ replicate 32 0 }
+
+-- calls 1, 2 and 3 at positions 3, 2 and 1 and call 4 at a line, by their records and ranks, from position 1 on
+abbrev pub four : List Record → List ℕ → Record → ℕ → Table
+four rs ks line rank = record { places = rs ++ (replicate 61 freeRecord ++ (line ∷ replicate 31 freeRecord)); ranks = ks ++ (replicate 61 0 ++ (rank ∷ replicate 31 0)) }
+
+-- a record of call n that waits at a position, asked for n times
+abbrev pub waiting : ℕ → ℕ → Record
+waiting n count = record { state = ParkWaiting; call = callOf n; connection = noConnection; count = record { 0 = count } }
+
+abbrev pub alerting : Record
+alerting = record { state = LineWaiting; call = callOf 4; connection = noConnection; count = noInvoke }
+
+-- a pickup of the next waiting position
+abbrev pub nextPosition : Event
+nextPosition = record { kind = 3; call = noCall; place = noPlace; choice = 1; connection = noConnection; invoke = noInvoke; timer = 0 }
 
 -- kind, call, place, invoke and timer; choice 0 and connection 0
 abbrev pub event : ℕ → ℕ → ℕ → ℕ → ℕ → Event
@@ -125,6 +145,25 @@ edges =
     ∷ refusal (with 7 (held RemoteRequested 900 1)) (pickrequ 901) (answer 11 noCall 0 0 6 901 0 2 0 0 0 0 0 0)
     ∷ refusal (with 71 (held HandedOver 0 1)) (event 3 1 0 0 0) (answer 12 noCall 0 0 0 0 0 0 0 0 0 0 0 0)
     ∷ refusal (with 71 (held HandedOver 0 1)) (pickrequ 901) (answer 12 noCall 0 0 6 901 0 2 0 0 0 0 0 0)
+    -- Q-4. Three calls came to positions 3, 2 and 1: choice 1 takes position 3. Its rank stays while it is asked for, and the next is at position 2.
+    ∷ edge (four (waiting 3 0 ∷ waiting 2 0 ∷ waiting 1 0 ∷ []) (3 ∷ 2 ∷ 1 ∷ []) alerting 1) nextPosition
+    (four (waiting 3 0 ∷ waiting 2 0 ∷ held Requested 0 1 ∷ []) (3 ∷ 2 ∷ 1 ∷ []) alerting 1) (answer 0 (callOf 1) 3 3 3 0 1 0 2 0 0 0 0 0)
+    ∷ edge (four (waiting 3 0 ∷ waiting 2 0 ∷ held Requested 0 1 ∷ []) (3 ∷ 2 ∷ 1 ∷ []) alerting 1) nextPosition
+    (four (waiting 3 0 ∷ record { state = Requested; call = callOf 2; connection = noConnection; count = record { 0 = 1 } } ∷ held Requested 0 1 ∷ []) (3 ∷ 2 ∷ 1 ∷ []) alerting 1)
+    (answer 0 (callOf 2) 2 3 3 0 1 0 2 0 0 0 0 0)
+    -- Q-4. A call sent back to waiting is served first again.
+    ∷ edge (four (waiting 3 0 ∷ waiting 2 0 ∷ waiting 1 1 ∷ []) (3 ∷ 2 ∷ 1 ∷ []) alerting 1) nextPosition
+    (four (waiting 3 0 ∷ waiting 2 0 ∷ held Requested 0 2 ∷ []) (3 ∷ 2 ∷ 1 ∷ []) alerting 1) (answer 0 (callOf 1) 3 3 3 0 2 0 2 0 0 0 0 0)
+    -- Q-4. The call at position 2 is released: only the rank above it drops, and the line keeps its own.
+    ∷ edge (four (waiting 3 0 ∷ waiting 2 0 ∷ waiting 1 0 ∷ []) (3 ∷ 2 ∷ 1 ∷ []) alerting 1) (event 8 2 0 0 0)
+    (four (waiting 3 0 ∷ freeRecord ∷ waiting 1 0 ∷ []) (2 ∷ 0 ∷ 1 ∷ []) alerting 1) (answer 0 (callOf 2) 2 0 0 0 0 0 0 1 0 0 0 0)
+    -- Q-4. A call that comes after it is the last of its side, at position 2 again.
+    ∷ edge (four (waiting 3 0 ∷ freeRecord ∷ waiting 1 0 ∷ []) (2 ∷ 0 ∷ 1 ∷ []) alerting 1) (event 1 5 0 0 0)
+    (four (waiting 3 0 ∷ waiting 5 0 ∷ waiting 1 0 ∷ []) (2 ∷ 3 ∷ 1 ∷ []) alerting 1) (answer 0 (callOf 5) 2 1 1 0 0 0 1 0 0 0 0 0)
+    -- Q-4. A rank that is not there, or there twice: 25.
+    ∷ refusal (four (waiting 3 0 ∷ waiting 2 0 ∷ waiting 1 0 ∷ []) (4 ∷ 2 ∷ 1 ∷ []) alerting 1) nextPosition (answer 25 noCall 0 0 0 0 0 0 0 0 0 0 0 0)
+    ∷ refusal (four (waiting 3 0 ∷ waiting 2 0 ∷ waiting 1 0 ∷ []) (3 ∷ 1 ∷ 1 ∷ []) alerting 1) nextPosition (answer 25 noCall 0 0 0 0 0 0 0 0 0 0 0 0)
+    ∷ refusal (four (waiting 3 0 ∷ freeRecord ∷ waiting 1 0 ∷ []) (2 ∷ 3 ∷ 1 ∷ []) alerting 1) nextPosition (answer 25 noCall 0 0 0 0 0 0 0 0 0 0 0 0)
     ∷ []
 
 -- the step from the edge's table is the edge's answer and table

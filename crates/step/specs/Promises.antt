@@ -1,11 +1,11 @@
 -- What is promised of every event at every table, over the machine's definition: one page of statements. Each is proved under the name
--- that stands beside it here, in `proofs/`: Promises, Pickers (Q-1), Taken (Q-3) and Small.
+-- that stands beside it here, in `proofs/`: Promises, Pickers (Q-1), Taken (Q-3), First (Q-4) and Small.
 -- Assumes nothing.
 use mathlib.Core.Path.{_≡_}
 use mathlib.Core.Logic.{_⊎_}
 use mathlib.Core.List.{List}
 use mathlib.Core.Bool.{Bool, true, false, cond}
-use Prim.Native.Nat.{ℕ, _≤_, _<_, _%_}
+use Prim.Native.Nat.{ℕ, _+_, _≤_, _<_, _%_}
 use lib.Dec.{eqb}
 use lib.ListN.{length}
 use Rattle.table.specs.declared.Place.{Place}
@@ -14,10 +14,12 @@ use Rattle.table.specs.declared.Invoke.{Invoke}
 use Rattle.table.specs.declared.State.{State}
 use Rattle.table.specs.declared.State.the-variants.{Free, ParkWaiting, LineWaiting, Requested, RemoteRequested, HandedOver}
 use Rattle.table.specs.declared.Side.{Side}
+use Rattle.table.specs.declared.Side.the-variants.{Position, Line}
 use Rattle.table.specs.declared.Table.{Table}
-use Rattle.table.specs.Places.{stateNumber, isFree, placeAt, sideAt, noPlace, noConnection, noInvoke, noCall, recordAt}
+use Rattle.table.specs.Places.{stateNumber, isFree, waitingOn, placeAt, sideAt, noPlace, noConnection, noInvoke, noCall, recordAt, rankAt}
 use Rattle.table.specs.Timers.{startedSet, stoppedSet}
-use Rattle.table.specs.Search.{holds}
+use Rattle.table.specs.Search.{holds, isAt}
+use Rattle.table.specs.Ranks.{callsOn, lowered}
 use Rattle.table.specs.Sound.{isSound}
 use Rattle.events.specs.declared.Event.{Event}
 use Rattle.events.specs.declared.Answer.{Answer}
@@ -35,9 +37,9 @@ use Rattle.events.specs.Reply.{replies, RepliesOnce}
 use Rattle.events.specs.Sought.{isTimer}
 use Rattle.step.specs.Step.{stepOf}
 
--- a table has 96 places; of a table in code its type says so
+-- a table has 96 places, each with a record and a rank; of a table in code its type says so
 abbrev pub Full : Table → Type 0
-Full t = length (t .places) ≡ 96
+Full t = (length (t .places) ≡ 96) × (length (t .ranks) ≡ 96)
 
 -- the event is done; any other number is a refusal
 abbrev pub IsAccepted : Table → Event → Type 0
@@ -70,13 +72,25 @@ pub data Move : State → State → Type 0 where
   ends : {before : State} → offered before ≡ true → Move before Free
   is-left : Move HandedOver Free
 
--- all that an accepted event does is at one place: from table t the step s
+-- the rank of a place that was free or not and is free or not, on a side that had n calls
+abbrev pub rankOf : Bool → Bool → ℕ → ℕ → ℕ
+rankOf true true n rank = 0
+rankOf true false n rank = n + 1
+rankOf false true n rank = 0
+rankOf false false n rank = rank
+
+-- all that an accepted event does is at one place, but for ranks: from table t the step s
 pub record AtOnePlace (t : Table) (s : Step) : Type 0 where
   pub index : ℕ
   pub inside : index < 96
   pub place : s .answer .place ≡ placeAt index
-  -- no other record changes
+  -- the other places change in their rank alone, and only when the place is freed: "higher ranks on that side drop by one" (document 02, Q-4)
   pub others : (j : ℕ) → (j ≡ index → ⊥) → recordAt (s .table) j ≡ recordAt t j
+  pub ranks-stay : isFree (recordAt (s .table) index .state) ≡ false → (j : ℕ) → (j ≡ index → ⊥) → rankAt (s .table) j ≡ rankAt t j
+  pub ranks-drop : isFree (recordAt (s .table) index .state) ≡ true → (j : ℕ) → j < 96 → (j ≡ index → ⊥)
+      → rankAt (s .table) j ≡ lowered (sideAt index) (rankAt t index) j (rankAt t j)
+  -- a call that comes is the last of its side, keeps its rank as long as it is held, and leaves none behind
+  pub rank : rankAt (s .table) index ≡ rankOf (isFree (recordAt t index .state)) (isFree (recordAt (s .table) index .state)) (callsOn t (sideAt index)) (rankAt t index)
   -- the answer's state is the one after the event
   pub state : s .answer .state ≡ stateNumber (recordAt (s .table) index .state)
   pub move : Move (recordAt t index .state) (recordAt (s .table) index .state)
@@ -210,6 +224,22 @@ TellsWhy = (t : Table) (e : Event) → Full t → isSound t ≡ true → (e .kin
 abbrev pub TakenAnswer : Type 0
 TakenAnswer = (t : Table) (e : Event) → Full t → e .kind ≡ 4 → isTaken (stepOf t e .answer .number) ≡ true
     → stepOf t e .answer ≡ saying (stepOf t e .answer .number) (PickError (e .connection) CallAlreadyPickedUp)
+
+-- ---- longest waiting first (document 02, Q-4)
+
+-- choice 1 asks for a position, 2 for a line
+abbrev pub choiceOf : Side → ℕ
+choiceOf Position = 1
+choiceOf Line = 2
+
+-- a call waits at this index, which is of the side
+abbrev pub Waits : Table → Side → ℕ → Type 0
+Waits t a i = isAt a (waitingOn a) i (recordAt t i) ≡ true
+
+-- `takes-first`: with choice 1 or 2 an accepted pickup is for a call that waits on that side, and none that waits there has a lower rank
+abbrev pub TakesFirst : Type 0
+TakesFirst = (t : Table) (e : Event) (a : Side) → Full t → IsAccepted t e → (e .kind ≡ 3) ⊎ (e .kind ≡ 4) → e .choice ≡ choiceOf a
+    → (x : AtOnePlace t (stepOf t e)) → Waits t a (x .index) × ((j : ℕ) → j < 96 → Waits t a j → rankAt t (x .index) ≤ rankAt t j)
 
 -- ---- how large an answer's numbers are
 

@@ -1,12 +1,12 @@
--- THE MACHINE: one event at a table, its answer and the table after it (document 01, "Events" and "Refusal numbers"; document 02, Q-1).
+-- THE MACHINE: one event at a table, its answer and the table after it (document 01, "Events" and "Refusal numbers"; document 02).
 -- Assumes nothing.
 use mathlib.Core.Bool.{cond}
 use mathlib.Core.List.{List}
 use Prim.Native.Nat.{ℕ}
-use lib.ListN.{set}
 use Rattle.table.specs.declared.Record.{Record}
 use Rattle.table.specs.declared.Table.{Table}
 use Rattle.table.specs.Places.{recordAt}
+use Rattle.table.specs.Ranks.{nextWaiting, put}
 use Rattle.table.specs.Sound.{isSound}
 use Rattle.events.specs.declared.Event.{Event}
 use Rattle.events.specs.declared.Acted.{Acted}
@@ -21,15 +21,15 @@ use Rattle.events.specs.Act.{changed, left, actedBy}
 use Rattle.step.specs.declared.Step.{Step}
 use Rattle.step.specs.declared.aim.Aim.{Aim}
 use Rattle.step.specs.declared.aim.Aim.the-variants.{To, Nowhere}
-use Rattle.step.specs.Aim.{aim, nextWaiting}
+use Rattle.step.specs.Aim.{aim}
 
 -- "Each refusal keeps the table."
 abbrev pub refusedBy : Table → Event → Refusal → Step
 refusedBy t e w = record { table = t; answer = declined e w }
 
--- what an event leaves at its place, in the table
+-- what an event leaves at its place, in the table; the ranks follow from it
 abbrev pub placed : Table → ℕ → Acted → Step
-placed t i a = record { table = record { places = set (t .places) i (a .after) }; answer = a .answer }
+placed t i a = record { table = put t i (a .after); answer = a .answer }
 
 -- a new record at an index, with its call's answer
 abbrev pub done : Table → ℕ → Record → List ℕ → Message → Message → Step

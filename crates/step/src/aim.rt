@@ -11,8 +11,9 @@ use table::State;
 use table::Table;
 use table::search;
 ghost use mathlib.Core.Path.{_≡_};
+ghost use Rattle.table.specs.Ranks.{nextWaiting};
 ghost use Rattle.events.specs.Rule.{ruleOf};
-ghost use Rattle.step.specs.Aim.{aimAt, isProposed, chosen, aimNew, aimNamed, aim, nextWaiting};
+ghost use Rattle.step.specs.Aim.{aimAt, isProposed, chosen, aimNew, aimNamed, aim};
 
 pub enum Aim {
     // An index of the table.
@@ -73,20 +74,13 @@ fn aim_named(t: Table, e: Event) -> Aim
     aim_at(search::find_call(t, call), Refusal::CallNotHeld)
 }
 
-// The waiting place of a side that is served.
-fn next_waiting(t: Table, a: Side) -> Found
-    ensures { λ r. ⌜ r ≡ nextWaiting t a ⌝ }
-{
-    search::lowest_in(t, a, a.waiting())
-}
-
 // The index that an event is for, or why there is none.
 pub(crate) fn aim_of(t: Table, e: Event) -> Aim
     ensures { λ r. ⌜ r ≡ aim (nextWaiting t) (ruleOf (e .kind)) t e ⌝ }
 {
     match sought::sought_of(e) {
         Sought::Held => aim_named(t, e),
-        Sought::Waiting(a) => aim_at(next_waiting(t, a), Refusal::NothingWaits),
+        Sought::Waiting(a) => aim_at(queue::next_waiting(t, a), Refusal::NothingWaits),
         Sought::Room(d) => aim_new(d, t, e),
         Sought::Never(w) => Aim::Nowhere(w),
     }

@@ -41,10 +41,8 @@ fn carry_out(t: Table, e: Event, i: usize) -> Step
     let a = events::act(e, i, r);
     let after = a.after;
     let answer = a.answer;
-    let mut next = t;
-    next.places[i] = after;
     Step {
-        table: next,
+        table: queue::put_record(t, i, after),
         answer,
     }
 }

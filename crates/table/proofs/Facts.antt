@@ -1,15 +1,15 @@
--- Soundness twice: the test that the code runs (`isSound`) says exactly the four facts of document 01 (`Sound`). What `every`
--- says of a list is turned into what it says of each index, and each test into its fact.
+-- Soundness twice: the test that the code runs (`isSound`) says exactly the facts of document 01 and of Q-4 (`Sound`). What `every` and `below`
+-- say is turned into what they say of each index, and each test into its fact.
 -- Assumes nothing.
 use mathlib.Core.Path.{_≡_, refl, sym, ap, _∙_}
 use mathlib.Core.Bool.{Bool, true, false, not}
 use mathlib.Core.List.{List, [], _∷_}
 use mathlib.Core.Logic.{_↔_, ⊎-elim}
-use Prim.Native.Nat.{ℕ, zero, suc, _+_, _-_, _<_}
+use Prim.Native.Nat.{ℕ, zero, suc, _+_, _-_, _<_, _≤_}
 use native.Mathlib.Nat.{add-zero, zero-add, not-suc-le-zero, le-of-suc-le-suc}
 use native.Mathlib.Omega.{arith}
 use lib.Dec.{eqb}
-use borrow.Author.Tests.{eqb-true, eq-eqb, not-true}
+use borrow.Author.Tests.{eqb-true, eq-eqb, leb-true, le-leb, not-true}
 use lib.ListN.{length, drop, getD, length-drop}
 use lib.Seq.{getD-drop}
 use Rattle.laws.proofs.Bools.{never, and-left, and-right, and-both, not-both, less-or}
@@ -19,9 +19,11 @@ use Rattle.table.specs.declared.Side.{Side}
 use Rattle.table.specs.declared.Side.the-variants.{Position, Line}
 use Rattle.table.specs.declared.Record.{Record}
 use Rattle.table.specs.declared.Table.{Table}
-use Rattle.table.specs.Places.{stateNumber, isFree, sideAt, noCall, noConnection, freeRecord, emptyTable, blank, recordAt}
-use Rattle.table.specs.Search.{sameCall, holds, every}
-use Rattle.table.specs.Sound.{fitsSide, allZeros, tidyIn, clash, unlike, placeSound, apartFromLater, isSound, Sound}
+use Rattle.table.specs.Places.{stateNumber, isFree, sideAt, noCall, noConnection, freeRecord, emptyTable, blank, recordAt, rankAt}
+use Rattle.table.specs.Search.{sameCall, holds, every, below}
+use Rattle.table.specs.Ranks.{callsOn, rankIn, rankFits, ranksDiffer, rankSound, isRanked}
+use Rattle.table.specs.Sound.{fitsSide, allZeros, tidyIn, clash, unlike, placeSound, apartFromLater, recordsSound, isSound, Sound}
+use Rattle.table.proofs.RankLaws.{below-get, below-make, alike, differ}
 use Rattle.table.proofs.Calls.{same-is, holds-occupied, holds-same, occupied-holds}
 
 -- ---- every record of a list, by its index
@@ -111,23 +113,47 @@ module _ (r x : Record) (h : clash r x ≡ true) where
   clash-first : isFree (r .state) ≡ false
   clash-first = not-true (isFree (r .state)) (and-left (not (isFree (r .state))) (holds (r .call) x) h)
 
+-- ---- a rank that fits
+
+rank-held : (free : Bool) (n rank : ℕ) → rankIn free n rank ≡ true → free ≡ eqb rank 0
+rank-held true n rank h = sym h
+rank-held false n rank h = sym (not-true (eqb rank 0) (and-left (not (eqb rank 0)) _ h))
+
+pub rank-low : (free : Bool) (n rank : ℕ) → rankIn free n rank ≡ true → rank ≤ n
+rank-low true n rank h = omega (arith, eqb-true rank 0 h)
+rank-low false n rank h = leb-true rank n (and-right (not (eqb rank 0)) _ h)
+
+rank-made : (free : Bool) (n rank : ℕ) → free ≡ eqb rank 0 → rank ≤ n → rankIn free n rank ≡ true
+rank-made true n rank e h = sym e
+rank-made false n rank e h = and-both (ap not (sym e)) (le-leb rank n h)
+
 -- ---- the test and the facts
 
 module _ (t : Table) (size : length (t .places) ≡ 96) where
   -- from the test
   module _ (test : isSound t ≡ true) where
+    records : recordsSound t ≡ true
+    records = and-left (recordsSound t) (isRanked t) test
+
+    rank-of : (i : ℕ) → i < 96 → rankSound t i ≡ true
+    rank-of i h = below-get (rankSound t) 96 (and-right (recordsSound t) (isRanked t) test) i h
+
     placed : (i : ℕ) → i < 96 → placeSound i (recordAt t i) (drop (suc i) (t .places)) ≡ true
-    placed i h = rw (zero-add i) at (every-get placeSound 0 (t .places) (and-left (every placeSound 0 (t .places)) _ test) i (omega arith))
+    placed i h = rw (zero-add i) at (every-get placeSound 0 (t .places) (and-left (every placeSound 0 (t .places)) _ records) i (omega arith))
 
     apart : (i j : ℕ) → i < j → j < 96 → clash (recordAt t i) (recordAt t j) ≡ false
     apart i j lt h =
         let later : every (unlike (recordAt t i)) (i + 1) (drop (suc i) (t .places)) ≡ true =
-        rw (zero-add i) at (every-get apartFromLater 0 (t .places) (and-right (every placeSound 0 (t .places)) _ test) i (omega arith)) in
+        rw (zero-add i) at (every-get apartFromLater 0 (t .places) (and-right (every placeSound 0 (t .places)) _ records) i (omega arith)) in
         let short : j - suc i < length (drop (suc i) (t .places)) = simp length-drop (omega arith) in
         let got = every-get (unlike (recordAt t i)) (i + 1) (drop (suc i) (t .places)) later (j - suc i) short in
         let at : suc i + (j - suc i) ≡ j = omega arith in
         let read = getD-drop (suc i) (t .places) (j - suc i) blank ∙ ap (λ (n : ℕ). recordAt t n) at in
         not-true (clash (recordAt t i) (recordAt t j)) (sym (ap (λ (x : Record). not (clash (recordAt t i) x)) read) ∙ got)
+
+    -- no place below has the same rank
+    differs : (i j : ℕ) → j < i → i < 96 → ranksDiffer t i j ≡ true
+    differs i j lt h = below-get (ranksDiffer t i) i (and-right (rankFits t i) _ (rank-of i h)) j lt
 
     pub facts-of-test : Sound t
     facts-of-test = record {
@@ -141,6 +167,13 @@ module _ (t : Table) (size : length (t .places) ≡ 96) where
           (λ gt. absurd (not-both (clash-made (recordAt t j) (recordAt t i) fj fi (sym c)) (apart j i gt hi)))
           (λ ge. omega arith)
           (less-or j i))
+          (less-or i j);
+      ranked-if-held = λ i h. rank-held (isFree (recordAt t i .state)) (callsOn t (sideAt i)) (rankAt t i) (and-left (rankFits t i) _ (rank-of i h));
+      rank-to-n = λ i h. rank-low (isFree (recordAt t i .state)) (callsOn t (sideAt i)) (rankAt t i) (and-left (rankFits t i) _ (rank-of i h));
+      one-rank = λ i j hi hj side ranked same.
+          ⊎-elim
+          (λ lt. absurd (not-both (differs j i lt hj) (alike t j i (sym side) (λ z. ranked (same ∙ z)) (sym same))))
+          (λ le. ⊎-elim (λ gt. absurd (not-both (differs i j gt hi) (alike t i j side ranked same))) (λ ge. omega arith) (less-or j i))
           (less-or i j);
     }
 
@@ -158,8 +191,12 @@ module _ (t : Table) (size : length (t .places) ≡ 96) where
             (sym (holds-same (recordAt t i .call) (recordAt t j) held)) in
             absurd (omega arith)
 
-    pub test-of-facts : isSound t ≡ true
-    test-of-facts =
+    apart-ranks : (i j : ℕ) → j < i → i < 96 → ranksDiffer t i j ≡ true
+    apart-ranks i j lt h =
+        differ t i j (λ side ranked same. let one : i ≡ j = s .one-rank i j h (omega arith) side ranked same in absurd (omega arith))
+
+    records-of-facts : recordsSound t ≡ true
+    records-of-facts =
         and-both
         (every-make placeSound 0 (t .places) (λ i h.
         rw (zero-add i)
@@ -170,9 +207,17 @@ module _ (t : Table) (size : length (t .places) ≡ 96) where
         let far : suc i + m < length (t .places) = omega (arith, length-drop (suc i) (t .places)) in
         ap (λ (x : Record). not (clash (recordAt t i) x)) (getD-drop (suc i) (t .places) m blank) ∙ no-clash i (suc i + m) (omega arith) (omega arith)))))
 
+    pub test-of-facts : isSound t ≡ true
+    test-of-facts =
+        and-both records-of-facts
+        (below-make (rankSound t) 96 (λ i h.
+        and-both (rank-made (isFree (recordAt t i .state)) (callsOn t (sideAt i)) (rankAt t i) (s .ranked-if-held i h) (s .rank-to-n i h))
+        (below-make (ranksDiffer t i) i (λ j lt. apart-ranks i j lt h))))
+
   -- THE TWO ARE ONE
   pub test-is-facts : (isSound t ≡ true) ↔ Sound t
   test-is-facts = (facts-of-test, test-of-facts)
 
 pub empty-sound : isSound emptyTable ≡ true
+unfolding below
 empty-sound = refl

@@ -89,9 +89,9 @@ noCall = replicate 16 0
 abbrev pub freeRecord : Record
 freeRecord = record { state = Free; call = noCall; connection = noConnection; count = noInvoke }
 
--- "The table has a fixed size, a named capacity and one empty value."
+-- "The table has a fixed size, a named capacity and one empty value." Document 02, Q-4: "a free place has 0"
 abbrev pub emptyTable : Table
-emptyTable = record { places = replicate 96 freeRecord }
+emptyTable = record { places = replicate 96 freeRecord; ranks = replicate 96 0 }
 
 -- what a read past the end of a list of records gives; no place of a table is read so
 abbrev pub blank : Record
@@ -99,3 +99,7 @@ blank = record { state = Free; call = []; connection = noConnection; count = noI
 
 abbrev pub recordAt : Table → ℕ → Record
 recordAt t i = getD (t .places) i blank
+
+-- the rank of the place at an index (document 02, Q-4)
+abbrev pub rankAt : Table → ℕ → ℕ
+rankAt t i = getD (t .ranks) i 0

@@ -3,7 +3,7 @@
 -- Assumes nothing.
 use mathlib.Core.Bool.{Bool, true, false, cond, not, _&&_}
 use mathlib.Core.List.{List, [], _∷_}
-use Prim.Native.Nat.{ℕ, _+_}
+use Prim.Native.Nat.{ℕ, zero, suc, _+_}
 use lib.Dec.{eqb}
 use Rattle.table.specs.declared.State.{State}
 use Rattle.table.specs.declared.Side.{Side}
@@ -50,3 +50,8 @@ every p i (r ∷ rs) = p i r rs && every p (i + 1) rs
 abbrev pub total : (ℕ → Record → ℕ) → ℕ → List Record → ℕ
 total f i [] = 0
 total f i (r ∷ rs) = f i r + total f (i + 1) rs
+
+-- every index below n passes the test
+unfoldable pub below : (ℕ → Bool) → ℕ → Bool
+below p zero = true
+below p (suc n) = p n && below p n

@@ -1,9 +1,10 @@
-// The table of held calls: 96 places with a record each, the timers that run in a state, the test of soundness and the status
-// query. What each word means is defined in specs/, from document 01's "Places and records" and "Lines, image, status".
+// The table of held calls: 96 places with a record and a rank each, the timers that run in a state, the test of soundness and the status
+// query. What each word means is defined in specs/, from document 01's "Places and records" and "Lines, image, status", and document 02's Q-4.
 //
 // Places are counted from 1 and are a type of their own; an index into the array is counted from 0.
 
 mod keys;
+pub mod ranks;
 pub mod search;
 pub mod sound;
 pub mod status;
@@ -55,8 +56,12 @@ pub struct Record {
     pub count: Invoke,
 }
 
+// A rank stands beside its record, not in it: it says where a call stands among the others of its side, and what an event does at one place
+// depends on no other.
 pub struct Table {
     pub places: [Record; Table::PLACES],
+    // 0 of a free place
+    pub ranks: [u8; Table::PLACES],
 }
 
 impl State {
@@ -105,7 +110,7 @@ impl Side {
         }
     }
 
-    pub(crate) fn same(self, other: Side) -> bool
+    pub fn same(self, other: Side) -> bool
         ensures { λ r. ⌜ r ≡ sameSide self other ⌝ }
     {
         self.index() == other.index()
@@ -198,6 +203,7 @@ impl Table {
     {
         Table {
             places: [Record::free(); Table::PLACES],
+            ranks: [0; Table::PLACES],
         }
     }
 }

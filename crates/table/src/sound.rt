@@ -5,6 +5,7 @@ use crate::Side;
 use crate::State;
 use crate::Table;
 use crate::keys;
+use crate::ranks;
 use crate::search;
 ghost use mathlib.Core.Path.{_≡_};
 ghost use Prim.Native.Nat.{ℕ, _<_, _+_};
@@ -13,7 +14,7 @@ ghost use lib.ListN.{drop, getD};
 ghost use Rattle.table.specs.Places.{recordAt, sideAt};
 ghost use Rattle.table.specs.Keys.{recordKey};
 ghost use Rattle.table.specs.Search.{every};
-ghost use Rattle.table.specs.Sound.{fitsSide, allZeros, tidyIn, clash, unlike, placeSound, apartFromLater, isSound};
+ghost use Rattle.table.specs.Sound.{fitsSide, allZeros, tidyIn, clash, unlike, placeSound, apartFromLater, recordsSound, isSound};
 
 fn fits_side(a: Side, s: State) -> bool
     ensures { λ r. ⌜ r ≡ fitsSide a s ⌝ }
@@ -124,11 +125,21 @@ fn calls_apart(t: Table) -> bool
     true
 }
 
-pub fn is_sound(t: Table) -> bool
-    ensures { λ r. ⌜ r ≡ isSound t ⌝ }
+fn records_sound(t: Table) -> bool
+    ensures { λ r. ⌜ r ≡ recordsSound t ⌝ }
 {
     if places_sound(t) {
         calls_apart(t)
+    } else {
+        false
+    }
+}
+
+pub fn is_sound(t: Table) -> bool
+    ensures { λ r. ⌜ r ≡ isSound t ⌝ }
+{
+    if records_sound(t) {
+        ranks::is_ranked(t)
     } else {
         false
     }

@@ -12,13 +12,14 @@ mod product;
 use std::fs::{self, File};
 use std::hint::black_box;
 use std::io::ErrorKind;
+use std::ops::Range;
 use std::path::{Path, PathBuf};
 use std::process::{Command, Stdio};
 use std::time::{Duration, Instant};
 
 use peer::trial::{line_of, Follower, Rng};
 use peer::{
-    step, write_image, Call, Connection, Event, Invoke, Place, Record, Side, Table, ANSWER_OCTETS, IMAGE_OCTETS,
+    step, write_image, Call, Connection, Event, Invoke, Place, Side, Table, ANSWER_OCTETS, IMAGE_OCTETS,
     RECORD_OCTETS,
 };
 
@@ -39,8 +40,8 @@ fn main() {
     match &arguments[..] {
         [mode, row, side, cycles] if mode == "cycles" => {
             let [row, side, cycles] = [row, side, cycles].map(|text| text.parse().expect("a number"));
-            let Row { mut image, lines, .. } = step_rows().swap_remove(row);
-            run_cycles(STEPS[side], &mut image, &lines, cycles);
+            let row = step_rows().swap_remove(row);
+            row.run_cycles(side, &mut row.image.clone(), cycles);
         }
         // Cargo adds an argument of its own.
         _ => print_table(),
@@ -90,10 +91,12 @@ struct Row {
     number: &'static str,
     image: Vec<u8>,
     lines: Vec<Vec<u8>>,
+    /// The octets that are put back after each cycle, where no event would do so. That is measured too.
+    put_back: Range<usize>,
 }
 
 fn step_rows() -> Vec<Row> {
-    let row = |name: &str, number, (image, lines)| Row { name: name.into(), number, image, lines };
+    let row = |name: &str, number, (image, lines)| Row { name: name.into(), number, image, lines, put_back: 0..0 };
     let mut rows = vec![row("no calls", "0", stays(0, random_call))];
     for calls in [24, 48, 96] {
         rows.push(row(&format!("{calls} random calls"), "0", stays(calls, random_call)));
@@ -108,7 +111,60 @@ fn step_rows() -> Vec<Row> {
     while six_fields[0].pop() != Some(b'\t') {}
     rows.push(row("96 random calls, refused line (22)", "22", (image, six_fields)));
     rows.push(row("96 random calls, refused image (25)", "25", (equal_calls, lines)));
+    for (side, calls) in [(Side::Position, Table::POSITIONS), (Side::Line, Table::LINES)] {
+        rows.extend([1, calls].map(|rank| release(side, rank)));
+    }
+    rows.push(longest_waiting_last());
     rows
+}
+
+/// All places are taken, and the call in the middle of the side, which has this rank, is released: all that came after
+/// it move up. The whole side is put back whatever the rank, so that two of these rows differ by the moving up alone.
+fn release(side: Side, rank: usize) -> Row {
+    let mut order: Vec<usize> = side.indices().collect();
+    let (calls, middle) = (order.len(), order.remove(order.len() / 2));
+    order.insert(rank - 1, middle);
+    let others = (0..Table::PLACES).filter(|&index| Side::of(index) != side);
+    let image = image_of(order.into_iter().chain(others), random_call);
+    assert_eq!(usize::from(image[RECORD_OCTETS * (middle + 1) - 1]), rank, "a place's last octet is its rank");
+    Row {
+        name: format!("96 random calls, release of rank {rank} of {calls}"),
+        number: "0",
+        image,
+        lines: vec![line_of(&Event { kind: 8, call: random_call(middle), ..Event::default() })],
+        put_back: RECORD_OCTETS * side.indices().start..RECORD_OCTETS * side.indices().end,
+    }
+}
+
+/// All places are taken, the last first, so that whoever looks for the longest waiting call finds one that came earlier
+/// at each place.
+fn longest_waiting_last() -> Row {
+    let last = RECORD_OCTETS * (Table::POSITIONS - 1);
+    Row {
+        name: "96 random calls, choice 1, the longest waiting at place 64".into(),
+        number: "0",
+        image: image_of((0..Table::PLACES).rev(), random_call),
+        lines: vec![line_of(&Event { kind: 4, choice: 1, connection: Connection(900), ..Event::default() })],
+        put_back: last..last + RECORD_OCTETS,
+    }
+}
+
+/// The event by which the call of the record with this index comes to its place.
+fn entering(index: usize, call: Call) -> Event {
+    let kind = if index < Table::POSITIONS { 1 } else { 2 };
+    Event { kind, call, place: Place(index as u16 + 1), ..Event::default() }
+}
+
+/// The image after calls have come to the records with these indices, in this order.
+fn image_of(order: impl Iterator<Item = usize>, call_at: fn(usize) -> Call) -> Vec<u8> {
+    let mut table = Table::empty();
+    for index in order {
+        let answer = step(&mut table, &entering(index, call_at(index)));
+        assert_eq!(answer.number, 0, "the calls and the places differ");
+    }
+    let mut image = vec![0; IMAGE_OCTETS];
+    write_image(&table, &mut image).expect("an image's length");
+    image
 }
 
 /// Differs from the others in its first octets already, as identifiers of real calls do.
@@ -134,24 +190,19 @@ fn colliding_call(index: usize) -> Call {
 /// by one.
 fn stays(calls: usize, call_at: fn(usize) -> Call) -> (Vec<u8>, Vec<Vec<u8>>) {
     let taken: Vec<usize> = (0..calls).map(|nth| nth * Table::PLACES / calls).collect();
-    let mut records = [Record::FREE; Table::PLACES];
-    for &index in &taken {
-        records[index] = Record { state: Side::of(index).waiting(), call: call_at(index), ..Record::FREE };
-    }
-    let table = Table::from_records(records).expect("the calls differ");
-    let mut image = vec![0; IMAGE_OCTETS];
-    write_image(&table, &mut image).expect("an image's length");
+    let moved = [0, 1, 2].map(|share| match calls {
+        0 => share * (Table::PLACES - 1) / 2,
+        _ => taken[share * (calls - 1) / 2],
+    });
+    // Whoever is entered anew is the last of its side, and has to be so from the start for the cycle to close.
+    let (anew, others): (Vec<usize>, Vec<usize>) = taken.iter().partition(|index| moved.contains(index));
+    let image = image_of(others.into_iter().chain(anew), call_at);
 
     let mut lines = Vec::new();
-    for share in [0, 1, 2] {
-        let index = match calls {
-            0 => share * (Table::PLACES - 1) / 2,
-            _ => taken[share * (calls - 1) / 2],
-        };
+    for index in moved {
         let call = call_at(index);
-        let entering = if index < Table::POSITIONS { 1 } else { 2 };
         let mut stay = [
-            Event { kind: entering, call, place: Place(index as u16 + 1), ..Event::default() },
+            entering(index, call),
             Event { kind: 4, call, connection: Connection(900), ..Event::default() },
             Event { kind: 10, call, timer: 9, ..Event::default() },
             Event { kind: 3, call, ..Event::default() },
@@ -165,16 +216,21 @@ fn stays(calls: usize, call_at: fn(usize) -> Call) -> (Vec<u8>, Vec<Vec<u8>>) {
     (image, lines)
 }
 
-fn run_cycles(step: Step, image: &mut [u8], lines: &[Vec<u8>], cycles: usize) {
-    let mut answer = [0; ANSWER_OCTETS];
-    for _ in 0..cycles {
-        for line in lines {
-            black_box(black_box(step)(image, line, &mut answer));
+impl Row {
+    fn run_cycles(&self, side: usize, image: &mut [u8], cycles: usize) {
+        let mut answer = [0; ANSWER_OCTETS];
+        for _ in 0..cycles {
+            for line in &self.lines {
+                black_box(black_box(STEPS[side])(image, line, &mut answer));
+            }
+            self.put_back(image);
         }
     }
-}
 
-impl Row {
+    fn put_back(&self, image: &mut [u8]) {
+        image[self.put_back.clone()].copy_from_slice(&self.image[self.put_back.clone()]);
+    }
+
     /// Both sides do the same, and what the row's name says.
     fn check(&self) {
         let mut images = [(); 2].map(|()| self.image.clone());
@@ -187,6 +243,7 @@ impl Row {
             let number = answers[0].split(|&octet| octet == b'\t').next();
             assert_eq!(number, Some(self.number.as_bytes()), "{}: another number", self.name);
         }
+        self.put_back(&mut images[0]);
         assert!(images[0] == self.image, "{}: the cycle does not close", self.name);
     }
 
@@ -195,7 +252,7 @@ impl Row {
         let time = |side: usize, cycles: usize| {
             let mut image = self.image.clone();
             let start = Instant::now();
-            run_cycles(STEPS[side], &mut image, &self.lines, cycles);
+            self.run_cycles(side, &mut image, cycles);
             start.elapsed()
         };
         let cycles = [0, 1].map(|side| {

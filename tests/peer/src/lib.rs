@@ -1,5 +1,5 @@
-//! The park and pickup table of document 01, with requests of document 02, written a second time, from
-//! the documents alone.
+//! The park and pickup table of document 01, with requests of document 02, written a second time,
+//! from the documents alone.
 //!
 //! It serves as the other side of a comparison: the tests hold every octet of the product against it, and a
 //! benchmark may hold the product's speed against it. Remarks name the heading of document 01 in quotes.
@@ -15,7 +15,7 @@ pub mod trial;
 pub use image::{park_step, read_image, write_image, IMAGE_OCTETS, RECORD_OCTETS};
 pub use lines::{bad_field, read_line, session, write_answer, write_event, ANSWER_OCTETS, LINE_OCTETS};
 pub use machine::{step, Answer, ErrorNumber, Event, Message, MessageNumber};
-pub use table::{refusal, Call, Connection, Invoke, Place, Record, Side, State, Status, Table};
+pub use table::{refusal, Call, Connection, Invoke, Place, Rank, Record, Side, State, Status, Table};
 
 #[cfg(test)]
 mod tests {
@@ -43,6 +43,63 @@ mod tests {
         ]);
         let expected = Status { free_positions: 62, free_lines: 30, waiting_calls: 2, running_timers: 4 };
         assert_eq!(table.status(), expected);
+    }
+
+    /// The ranks at the positions 5, 9 and 1, and at the lines 96 and 65.
+    fn ranks(table: &Table) -> [u8; 5] {
+        [5, 9, 1, 96, 65].map(|place| table.records()[place - 1].rank.0)
+    }
+
+    #[test]
+    fn calls_are_ranked_as_they_come_and_move_up_when_one_goes() {
+        let mut table = table_of(&[
+            "1\t0000000000000000000000000000000a\t5\t0\t0\t0\t0",
+            "2\t0000000000000000000000000000000d\t96\t0\t0\t0\t0",
+            "1\t0000000000000000000000000000000b\t9\t0\t0\t0\t0",
+            "1\t0000000000000000000000000000000c\t1\t0\t0\t0\t0",
+            "2\t0000000000000000000000000000000e\t65\t0\t0\t0\t0",
+        ]);
+        assert_eq!(ranks(&table), [1, 2, 3, 1, 2]);
+        let mut take = |line: &str, place, after| {
+            let answer = step(&mut table, &read_line(line.as_bytes()).unwrap());
+            assert_eq!((answer.number, answer.place, ranks(&table)), (0, Place(place), after), "{line}");
+        };
+        let choice_1 = "4\t00000000000000000000000000000000\t0\t1\t7\t0\t0";
+        take(choice_1, 5, [1, 2, 3, 1, 2]);
+        take(choice_1, 9, [1, 2, 3, 1, 2]);
+        take("10\t0000000000000000000000000000000a\t0\t0\t0\t0\t9", 5, [1, 2, 3, 1, 2]);
+        take(choice_1, 5, [1, 2, 3, 1, 2]);
+        take("8\t0000000000000000000000000000000b\t0\t0\t0\t0\t0", 9, [1, 0, 2, 1, 2]);
+        take("1\t0000000000000000000000000000000b\t9\t0\t0\t0\t0", 9, [1, 3, 2, 1, 2]);
+        take("8\t0000000000000000000000000000000e\t0\t0\t0\t0\t0", 65, [1, 3, 2, 1, 0]);
+        take("10\t0000000000000000000000000000000a\t0\t0\t0\t0\t3", 5, [0, 2, 1, 1, 0]);
+        take(choice_1, 1, [0, 2, 1, 1, 0]);
+    }
+
+    #[test]
+    fn a_side_of_n_calls_has_the_ranks_1_to_n() {
+        let is_sound = |ranks: [u8; 5]| {
+            let mut records = *table_of(&[
+                "1\t0000000000000000000000000000000a\t5\t0\t0\t0\t0",
+                "1\t0000000000000000000000000000000b\t9\t0\t0\t0\t0",
+                "2\t0000000000000000000000000000000d\t96\t0\t0\t0\t0",
+                "2\t0000000000000000000000000000000e\t65\t0\t0\t0\t0",
+            ])
+            .records();
+            for (place, rank) in [5, 9, 1, 96, 65].into_iter().zip(ranks) {
+                records[place - 1].rank = Rank(rank);
+            }
+            Table::from_records(records).is_ok()
+        };
+        for ranks in [[1, 2, 0, 1, 2], [2, 1, 0, 1, 2], [1, 2, 0, 2, 1], [2, 1, 0, 2, 1]] {
+            assert!(is_sound(ranks), "{ranks:?}");
+        }
+        for ranks in [[0, 1, 0, 1, 2], [1, 1, 0, 1, 2], [2, 2, 0, 1, 2], [1, 3, 0, 1, 2], [2, 3, 0, 1, 2]] {
+            assert!(!is_sound(ranks), "{ranks:?}");
+        }
+        for ranks in [[1, 0, 2, 1, 2], [1, 2, 3, 1, 2], [1, 2, 1, 1, 2], [1, 2, 0, 3, 4], [1, 255, 0, 1, 2]] {
+            assert!(!is_sound(ranks), "{ranks:?}");
+        }
     }
 
     #[test]

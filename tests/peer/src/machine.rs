@@ -1,4 +1,4 @@
-//! One event, one answer ("Events" and "Refusal numbers", and requests ).
+//! One event, one answer ("Events" and "Refusal numbers", and requests ).
 
 use crate::table::{refusal, Call, Connection, Invoke, Place, Record, Side, State, Table};
 
@@ -128,18 +128,21 @@ fn hold(table: &mut Table, index: usize, after: Record, message: MessageNumber) 
     replace(table, index, after, [message, MessageNumber::None])
 }
 
-/// The call is gone. A picker who waited for it is told after all else.
+/// The call is gone. A picker who waited for it is told after all else, and whoever came after it moves up.
 fn free(table: &mut Table, index: usize, message: MessageNumber) -> Answer {
-    let picker_waits = table.records[index].state == State::CpickupRemoteRequested;
+    let Record { state, rank, .. } = table.records[index];
+    let picker_waits = state == State::CpickupRemoteRequested;
     let messages = match (picker_waits, message) {
         (false, _) => [message, MessageNumber::None],
         (true, MessageNumber::None) => [MessageNumber::PickrequError, MessageNumber::None],
         (true, _) => [message, MessageNumber::PickrequError],
     };
-    replace(table, index, Record::FREE, messages)
+    let answer = replace(table, index, Record::FREE, messages);
+    table.drop_ranks_above(rank, Side::of(index));
+    answer
 }
 
-/// Ends a remote pickup that failed: the call waits again, its picker is told.
+/// Ends a remote pickup that failed: the call waits again, with the rank that it had, and its picker is told.
 fn wait_again(table: &mut Table, index: usize) -> Answer {
     let state = Side::of(index).waiting();
     let after = Record { state, connection: Connection(0), ..table.records[index] };
@@ -154,19 +157,20 @@ fn enter(table: &mut Table, event: &Event, side: Side, message: MessageNumber) -
     let proposed = usize::from(event.place.0).checked_sub(1);
     let index = proposed
         .filter(|index| side.indices().contains(index) && table.records[*index].state == State::Free)
-        .or_else(|| table.lowest(side, State::Free))
+        .or_else(|| table.lowest_free(side))
         .ok_or(refusal::NO_FREE_PLACE)?;
-    let after = Record { state: side.waiting(), call: event.call, ..Record::FREE };
+    let rank = table.next_rank(side);
+    let after = Record { state: side.waiting(), call: event.call, rank, ..Record::FREE };
     Ok(hold(table, index, after, message))
 }
 
 /// Kinds 3 and 4. A call that does not wait can only have been asked for by name.
 fn pick_up(table: &mut Table, event: &Event) -> Result<Answer, u8> {
-    let lowest_waiting = |side: Side| table.lowest(side, side.waiting()).ok_or(refusal::NOTHING_WAITS);
+    let longest_waiting = |side: Side| table.longest_waiting(side).ok_or(refusal::NOTHING_WAITS);
     let index = match event.choice {
         0 => present(table, event)?,
-        1 => lowest_waiting(Side::Position)?,
-        2 => lowest_waiting(Side::Line)?,
+        1 => longest_waiting(Side::Position)?,
+        2 => longest_waiting(Side::Line)?,
         _ => return Err(refusal::CHOICE_OR_TIMER),
     };
     let record = table.records[index];

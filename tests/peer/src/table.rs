@@ -1,4 +1,4 @@
-//! Places, records and the table ("Places and records").
+//! Places, records and the table ("Places and records", and the ranks of request Q-4).
 
 /// The numbers of "Refusal numbers" and of request Q-3. 26 is missing: no answer carries it.
 pub mod refusal {
@@ -36,6 +36,10 @@ pub struct Connection(pub u16);
 /// An invoke number, and the count of those given out.
 #[derive(Clone, Copy, PartialEq, Eq, Debug, Default)]
 pub struct Invoke(pub u16);
+
+/// When a call came among those that hold a place of its side: the first has 1, a free place has 0.
+#[derive(Clone, Copy, PartialEq, Eq, PartialOrd, Ord, Debug, Default)]
+pub struct Rank(pub u8);
 
 #[derive(Clone, Copy, PartialEq, Eq, Debug, Default)]
 #[repr(u8)]
@@ -101,13 +105,15 @@ pub struct Record {
     pub call: Call,
     pub connection: Connection,
     pub count: Invoke,
+    pub rank: Rank,
 }
 
 impl Record {
     pub const FREE: Record =
-        Record { state: State::Free, call: Call(0), connection: Connection(0), count: Invoke(0) };
+        Record { state: State::Free, call: Call(0), connection: Connection(0), count: Invoke(0), rank: Rank(0) };
 
-    /// The first three parts of "A table is sound when"; the last concerns all records together.
+    /// The first three parts of "A table is sound when", with a rank exactly where there is a call; what concerns the
+    /// records together is looked at elsewhere.
     fn is_sound_at(&self, side: Side) -> bool {
         let state_of_other_side = match side {
             Side::Position => State::WaitForPickup,
@@ -116,7 +122,8 @@ impl Record {
         let state_fits = self.state != state_of_other_side;
         let zeros_fit = self.state != State::Free || (self.call.0 == 0 && self.count.0 == 0);
         let connection_fits = self.state == State::CpickupRemoteRequested || self.connection.0 == 0;
-        state_fits & zeros_fit & connection_fits
+        let rank_fits = (self.state == State::Free) == (self.rank.0 == 0);
+        state_fits & zeros_fit & connection_fits & rank_fits
     }
 }
 
@@ -150,12 +157,13 @@ impl Table {
         Ok(table)
     }
 
-    /// "A table is sound when".
+    /// "A table is sound when", with the rank rule of Q-4.
     pub(crate) fn check(&self) -> Result<(), u8> {
-        let each_sound = [Side::Position, Side::Line]
-            .into_iter()
-            .all(|side| self.records[side.indices()].iter().all(|record| record.is_sound_at(side)));
-        match each_sound && calls_differ(&self.records) {
+        let sides_sound = [Side::Position, Side::Line].into_iter().all(|side| {
+            let records = &self.records[side.indices()];
+            records.iter().all(|record| record.is_sound_at(side)) && ranks_without_gap(records)
+        });
+        match sides_sound && calls_differ(&self.records) {
             true => Ok(()),
             false => Err(refusal::TABLE),
         }
@@ -169,9 +177,27 @@ impl Table {
         self.records.iter().position(|record| record.call == call && record.state != State::Free)
     }
 
-    /// The lowest place of the side in the given state.
-    pub(crate) fn lowest(&self, side: Side, state: State) -> Option<usize> {
-        side.indices().find(|&index| self.records[index].state == state)
+    pub(crate) fn lowest_free(&self, side: Side) -> Option<usize> {
+        side.indices().find(|&index| self.records[index].state == State::Free)
+    }
+
+    /// The place of the side whose call came first of those that wait there.
+    pub(crate) fn longest_waiting(&self, side: Side) -> Option<usize> {
+        let waiting = side.indices().filter(|&index| self.records[index].state == side.waiting());
+        waiting.min_by_key(|&index| self.records[index].rank)
+    }
+
+    /// The rank of the next call that comes to the side: all that are there came before it.
+    pub(crate) fn next_rank(&self, side: Side) -> Rank {
+        let records = &self.records[side.indices()];
+        Rank(1 + records.iter().filter(|record| record.state != State::Free).count() as u8)
+    }
+
+    /// Closes the gap that a call of this rank leaves on its side.
+    pub(crate) fn drop_ranks_above(&mut self, gone: Rank, side: Side) {
+        for record in &mut self.records[side.indices()] {
+            record.rank.0 -= u8::from(record.rank > gone);
+        }
     }
 
     /// "Lines, image, status". The 25 of an unsound table comes from `from_records`.
@@ -189,6 +215,18 @@ impl Table {
         }
         status
     }
+}
+
+/// Whether a side's n calls have all of the ranks 1 to n. It is called where each call has a rank above 0 and nothing
+/// else has one: then n calls, among which all n ranks are seen, have each of them once.
+fn ranks_without_gap(records: &[Record]) -> bool {
+    let mut seen = [false; 256];
+    let mut calls = 0;
+    for record in records {
+        seen[usize::from(record.rank.0)] = true;
+        calls += usize::from(record.state != State::Free);
+    }
+    seen[1..=calls].iter().all(|&seen| seen)
 }
 
 /// Whether no two occupied places hold the same call. Sorting brings equal calls side by side.

@@ -2,7 +2,7 @@
 
 use crate::lines::{write_event, LINE_OCTETS};
 use crate::machine::Event;
-use crate::table::{Call, Connection, Invoke, Place, Record, Side, State, Table};
+use crate::table::{Call, Connection, Invoke, Place, Rank, Record, Side, State, Table};
 
 /// Splitmix64.
 pub struct Rng(u64);
@@ -38,6 +38,13 @@ impl Rng {
 
     pub fn number(&mut self) -> u16 {
         self.word() as u16
+    }
+
+    /// Any order of the items is as likely as any other.
+    fn shuffle<T>(&mut self, items: &mut [T]) {
+        for last in (1..items.len()).rev() {
+            items.swap(last, self.below(last + 1));
+        }
     }
 
     fn call(&mut self) -> Call {
@@ -153,7 +160,8 @@ pub fn line_of(event: &Event) -> Vec<u8> {
     line
 }
 
-/// A sound table with about `fill` places taken, with neighbouring calls and many counts close to their wrap.
+/// A sound table with about `fill` places taken, with neighbouring calls, many counts close to their wrap, and ranks
+/// that have nothing to do with the places.
 pub fn sound_table(rng: &mut Rng, fill: usize) -> Table {
     let family = rng.call();
     let mut records = [Record::FREE; Table::PLACES];
@@ -173,5 +181,13 @@ pub fn sound_table(rng: &mut Rng, fill: usize) -> Table {
             record.connection = Connection(rng.one_of(&[0, 65_535, 900]));
         }
     }
-    Table::from_records(records).expect("each record is sound and the calls differ")
+    for side in [Side::Position, Side::Line] {
+        let mut taken: Vec<&mut Record> =
+            records[side.indices()].iter_mut().filter(|record| record.state != State::Free).collect();
+        rng.shuffle(&mut taken);
+        for (record, rank) in taken.into_iter().zip(1..) {
+            record.rank = Rank(rank);
+        }
+    }
+    Table::from_records(records).expect("each record is sound, the calls differ, and so do the ranks of a side")
 }

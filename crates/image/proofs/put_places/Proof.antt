@@ -1,16 +1,16 @@
--- What stands so far is the run of the octets of the first i records; all 96 are as long as the buffer.
+-- What stands so far is the run of the octets of the first i places; all 96 are as long as the buffer.
 -- Assumes nothing.
-use mathlib.Core.Path.{_≡_, refl, sym, ap, _∙_}
-use mathlib.Core.List.{_++_}
+use mathlib.Core.Path.{_≡_, refl, sym, ap, ap₂, _∙_}
+use mathlib.Core.List.{[], _∷_, _++_}
 use Prim.Native.Nat.{_+_, _-_, _*_, _≤_}
 use native.Mathlib.Omega.{arith}
-use lib.ListN.{length, take, getD, length-append}
+use lib.ListN.{length, take, getD, length-append, length-set}
 use lib.Seq.{sets, take-all}
 use Rattle.table.specs.Places.{blank}
-use Rattle.laws.proofs.Runs.{length-mapped}
+use Rattle.laws.proofs.Runs.{length-mapped, length-snoc, sets-more, sets-on, sets-all}
 use Rattle.image.specs.Image.{octetsOf, octetsOfAll}
-use Rattle.laws.proofs.Runs.{sets-on, sets-all}
 use Rattle.image.proofs.Fills.{all-more}
+use borrow.Author.Needs.{needs}
 use Rattle.image.proofs.put_places.Statement.{statement}
 use Rattle.image.proofs.put_places.Tie as tie
 
@@ -18,15 +18,18 @@ abbrev Inv-loop : tie.InvT-loop
 Inv-loop out₀ t i₀ out i =
     (i ≤ 96)
     × (length out ≡ length out₀)
-    × (length (octetsOfAll (take i (t .places))) ≡ i * 21)
-    × (out ≡ sets out₀ 0 (octetsOfAll (take i (t .places))))
+    × (length (octetsOfAll (take i (t .places)) (take i (t .ranks))) ≡ i * 22)
+    × (out ≡ sets out₀ 0 (octetsOfAll (take i (t .places)) (take i (t .ranks))))
 
 abbrev μ-loop : tie.MeasureT-loop
 μ-loop out₀ t i₀ out i = 96 - i
 
--- a table by value has as many places as its type says
+-- a table by value has as many places and ranks as its type says
 size : (c : tie.At-loop Inv-loop μ-loop) → length (c .before .before .args .t1 .places) ≡ 96
 size c = search length-mapped
+
+wide : (c : tie.At-loop Inv-loop μ-loop) → length (c .before .before .args .t1 .ranks) ≡ 96
+wide c = search needs
 
 loop-holds : tie.Need-loop-holds Inv-loop μ-loop
 unfolding octetsOfAll
@@ -44,6 +47,18 @@ mul-put-record c = omega arith
 put-record-requires : tie.Need-put-record-requires Inv-loop μ-loop
 put-record-requires c κs = omega arith
 
+element-copy-out-out : tie.Need-element-copy-out-out Inv-loop μ-loop
+element-copy-out-out c = omega arith
+
+mul-out : tie.Need-mul-out Inv-loop μ-loop
+mul-out c = omega arith
+
+add-out : tie.Need-add-out Inv-loop μ-loop
+add-out c = omega arith
+
+slice-write-out : tie.Need-slice-write-out Inv-loop μ-loop
+slice-write-out c = omega arith
+
 add-i : tie.Need-add-i Inv-loop μ-loop
 add-i c = omega arith
 
@@ -52,19 +67,23 @@ loop-less c = omega arith
 
 loop-again : tie.Need-loop-again Inv-loop μ-loop
 loop-again c =
-    let q = c .before .before in
+    let q = c .before .before .before in
     let k = q .before .before .before .before in
     let o = k .before .before .args .out .now in
     let s = k .before .before .args .t1 .places in
+    let ranks = k .before .before .args .t1 .ranks in
     let i = k .loop .i in
-    let f = octetsOfAll (take i s) in
-    let g = octetsOf (getD s i blank) in
-    let e : octetsOfAll (take (i + 1) s) ≡ f ++ g = all-more s i blank (omega (arith, size k)) in (
+    let rank = getD ranks i 0 in
+    let f = octetsOfAll (take i s) (take i ranks) in
+    let record-octets = octetsOf (getD s i blank) in
+    let g = octetsOf (getD s i blank) ++ (rank ∷ []) in
+    let e : octetsOfAll (take (i + 1) s) (take (i + 1) ranks) ≡ f ++ g = all-more s ranks i blank (omega (arith, size k)) (omega (arith, wide k)) in
+    let there : i * 22 + 21 ≡ i * 22 + length record-octets = omega (arith, q .put-record .ensures .1) in (
       omega arith,
-      q .put-record .kept .0 ∙ k .loop .inv .1,
-      omega (arith, ap length e, length-append f g, q .put-record .ensures .1, k .loop .inv .2),
-      q .put-record .ensures .0
-          ∙ sets-on f g o (k .loop .out) 0 (i * 21) (omega (arith, k .loop .inv .2)) (k .loop .inv .3)
+      length-set (q .put-record .last .0) (i * 22 + 21) rank ∙ q .put-record .kept .0 ∙ k .loop .inv .1,
+      omega (arith, ap length e, length-append f g, length-snoc record-octets rank, q .put-record .ensures .1, k .loop .inv .2),
+      sets-more record-octets (k .loop .out) (q .put-record .last .0) (i * 22) (i * 22 + 21) rank there (q .put-record .ensures .0)
+          ∙ sets-on f g o (k .loop .out) 0 (i * 22) (omega (arith, k .loop .inv .2)) (k .loop .inv .3)
           ∙ ap (sets o 0) (sym e),
     )
 
@@ -76,9 +95,11 @@ returns c =
     let k = c .before in
     let o = k .before .before .args .out .now in
     let s = k .before .before .args .t1 .places in
+    let ranks = k .before .before .args .t1 .ranks in
     let i = k .loop .i in
-    let e : octetsOfAll (take i s) ≡ octetsOfAll s = ap octetsOfAll (take-all i s (omega (arith, size k))) in
-    k .loop .inv .3 ∙ sets-all o (octetsOfAll (take i s)) (omega (arith, k .loop .inv .2)) ∙ e
+    let f = octetsOfAll (take i s) (take i ranks) in
+    let all = ap₂ octetsOfAll (take-all i s (omega (arith, size k))) (take-all i ranks (omega (arith, wide k))) in
+    k .loop .inv .3 ∙ sets-all o f (omega (arith, k .loop .inv .2)) ∙ all
 
 pub put-places-spec : {M : Type 1} → statement M
 put-places-spec =
@@ -91,6 +112,10 @@ put-places-spec =
     element-copy-out-r
     mul-put-record
     put-record-requires
+    element-copy-out-out
+    mul-out
+    add-out
+    slice-write-out
     add-i
     loop-less
     loop-again

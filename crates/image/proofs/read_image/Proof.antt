@@ -20,7 +20,7 @@ is-read-requires : tie.Need-is-read-requires
 is-read-requires c κs = search needs
 
 read-places-requires : tie.Need-read-places-requires
-read-places-requires c κs = eqb-true _ 2016 (and-left (eqb (length (c .before .before .before .args .image .now)) 2016) _ (good c))
+read-places-requires c κs = eqb-true _ 2112 (and-left (eqb (length (c .before .before .before .args .image .now)) 2112) _ (good c))
 
 refuse-requires : tie.Need-refuse-requires
 refuse-requires c κs = search needs

@@ -14,8 +14,8 @@ read-place-requires c κs = search needs
 act-requires : tie.Need-act-requires
 act-requires c κs = search needs
 
-write-place-requires : tie.Need-write-place-requires
-write-place-requires c κs = search needs
+put-place-requires : tie.Need-put-place-requires
+put-place-requires c κs = search needs
 
 same-length : tie.Need-same-length
 same-length c = search needs
@@ -27,7 +27,7 @@ returns c =
     let s = k .before .before .before .before .args in
     let same = k .act .ensures ∙ ap (acted (s .e) (s .i)) (k .before .read-place .ensures ∙ place-read (s .image .now) (s .i) (search needs) (search needs)) in (
       ap (λ a. a .answer) same,
-      w .write-place .ensures ∙ rw (← same, eq-eqb _ 0 (w .before .before .before .if1 .taken)),
+      w .put-place .ensures ∙ rw (← same, eq-eqb _ 0 (w .before .before .before .if1 .taken)),
     )
 
 same-length-2 : tie.Need-same-length-2
@@ -46,7 +46,7 @@ act-at-spec =
     (tie.spec
     read-place-requires
     act-requires
-    write-place-requires
+    put-place-requires
     same-length
     returns
     same-length-2

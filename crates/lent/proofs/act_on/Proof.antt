@@ -2,14 +2,15 @@
 -- Assumes nothing.
 use mathlib.Core.Path.{sym, refl, ap, _∙_}
 use Rattle.table.specs.declared.Table.{Table}
-use Rattle.table.specs.Places.{waitingOn}
-use Rattle.table.specs.Search.{holds, isAt, lowestIn}
+use Rattle.table.specs.Search.{holds}
 use Rattle.table.proofs.Searches.{found-passes}
 use Rattle.events.specs.Rule.{ruleOf}
 use Rattle.image.specs.Image.{tableFrom}
 use Rattle.image.proofs.Round.{fit-from}
-use Rattle.image.proofs.Looks.{found-in, lowest-found}
-use Rattle.step.specs.Aim.{aimFor, nextWaiting}
+use Rattle.image.proofs.Looks.{found-in, next-found}
+use Rattle.table.specs.Ranks.{nextWaiting}
+use Rattle.table.proofs.RankLaws.{found-below}
+use Rattle.step.specs.Aim.{aimFor}
 use Rattle.step.proofs.Soughts.{aim-sought}
 use borrow.Author.Needs.{needs}
 use Rattle.lent.proofs.act_on.Statement.{statement}
@@ -35,20 +36,17 @@ act-found-requires c κs =
 enum-known-a : tie.Need-enum-known-a
 enum-known-a c = search needs
 
-waiting-requires : tie.Need-waiting-requires
-waiting-requires c κs = search needs
-
-lowest-in-requires : tie.Need-lowest-in-requires
-lowest-in-requires c κs = search needs
+next-waiting-requires : tie.Need-next-waiting-requires
+next-waiting-requires c κs = search needs
 
 act-found-requires-2 : tie.Need-act-found-requires-2
 act-found-requires-2 c κs =
     let f = c .before in
-    let z = f .before .before .before .before .before .before .before .before in
+    let z = f .before .before .before .before .before .before .before in
     let s = z .args .image .now in
-    let a = f .before .before .before .before .a .given .0 .0 in
-    let found = f .lowest-in .ensures ∙ lowest-found s (z .pre) a (f .before .waiting .result) ∙ ap (λ u. lowestIn (tableFrom s) a u) (f .before .waiting .ensures) in
-    (z .pre, λ i q. found-passes (tableFrom s) (fit-from s (z .pre) .size) (isAt a (waitingOn a)) i (sym found ∙ q) .0)
+    let a = f .before .before .before .a .given .0 .0 in
+    let found = f .next-waiting .ensures ∙ next-found s (z .pre) a in
+    (z .pre, λ i q. found-below (tableFrom s) a 96 i (sym found ∙ q))
 
 enum-known-d : tie.Need-enum-known-d
 enum-known-d c = search needs
@@ -85,13 +83,13 @@ returns-2 : tie.Need-returns-2
 returns-2 c =
     let r = c .before .before in
     let f = r .before .before in
-    let m = f .before .before .before .before in
+    let m = f .before .before .before in
     let k = m .before .before in
     let z = k .before .before in
     let s = z .args .image .now in
     let t : Table = tableFrom s in
     let a = m .a .given .0 .0 in
-    let found = f .lowest-in .ensures ∙ lowest-found s (z .pre) a (f .before .waiting .result) ∙ ap (λ u. lowestIn (tableFrom s) a u) (f .before .waiting .ensures) in
+    let found = f .next-waiting .ensures ∙ next-found s (z .pre) a in
     let aimed = aim-sought (nextWaiting t) t (z .args .e) (ruleOf (z .args .e .kind)) ∙ ap (aimFor (nextWaiting t) t (z .args .e)) (sym (k .sought-of .ensures) ∙ m .a .given .1) in
     rw (aimed, ← found) (r .act-found2 .ensures)
 
@@ -126,8 +124,7 @@ act-on-spec =
     find-call-requires
     act-found-requires
     enum-known-a
-    waiting-requires
-    lowest-in-requires
+    next-waiting-requires
     act-found-requires-2
     enum-known-d
     act-new-requires

@@ -10,7 +10,7 @@ only-number-requires : tie.Need-only-number-requires
 only-number-requires c κs = search needs
 
 returns : tie.Need-returns
-returns c = rw (ne-eqb _ 2016 (c .before .if1 .taken)) (c .only-number .ensures, refl)
+returns c = rw (ne-eqb _ 2112 (c .before .if1 .taken)) (c .only-number .ensures, refl)
 
 act-on-requires : tie.Need-act-on-requires
 act-on-requires c κs = search needs
@@ -19,7 +19,7 @@ same-length : tie.Need-same-length
 same-length c = search needs
 
 returns-2 : tie.Need-returns-2
-returns-2 c = rw (eq-eqb _ 2016 (c .before .before .before .before .if1 .left)) (c .before .before .act-on .ensures)
+returns-2 c = rw (eq-eqb _ 2112 (c .before .before .before .before .if1 .left)) (c .before .before .act-on .ensures)
 
 pub step-event-spec : {M : Type 1} → statement M
 step-event-spec =

@@ -26,7 +26,7 @@ session o k n = record { image = o; kept = k; len = n }
 
 abbrev Inv-loop : tie.InvT-loop
 Inv-loop piece out₀ image₀ kept₀ len₀ at₀ i₀ sound out image kept len at i =
-    Feeding piece out₀ (session image₀ kept₀ len₀) (session image kept len) out at i × (length image ≡ 2016) × (sound ≡ isRead image)
+    Feeding piece out₀ (session image₀ kept₀ len₀) (session image kept len) out at i × (length image ≡ 2112) × (sound ≡ isRead image)
 
 abbrev μ-loop : tie.MeasureT-loop
 μ-loop piece out₀ image₀ kept₀ len₀ at₀ i₀ sound out image kept len at i = length piece - i
@@ -40,7 +40,7 @@ slice-aggregate-is-read c = search needs
 is-read-requires : tie.Need-is-read-requires Inv-loop μ-loop
 is-read-requires c κs = search needs
 
-size : (c : tie.Start Inv-loop μ-loop) → (length (c .args .s .kept) ≡ 63) × (length (c .args .s .image) ≡ 2016)
+size : (c : tie.Start Inv-loop μ-loop) → (length (c .args .s .kept) ≡ 63) × (length (c .args .s .image) ≡ 2112)
 size c = (search needs, search needs)
 
 -- a slice's length is a number of 64 bits

@@ -1,4 +1,4 @@
--- What the event leaves at its place, by the contract of `act`, is set in the table.
+-- What the event leaves at its place, by the contract of `act`, is put in the table.
 -- Assumes nothing.
 use borrow.Author.Needs.{needs}
 use Rattle.step.proofs.carry_out.Statement.{statement}
@@ -13,16 +13,12 @@ element-copy-out-r c = search needs
 act-requires : tie.Need-act-requires
 act-requires c κs = search needs
 
-mul-after : tie.Need-mul-after
-mul-after c = search needs
-
-element-set-from-after : tie.Need-element-set-from-after
-element-set-from-after c = search needs
+put-record-requires : tie.Need-put-record-requires
+put-record-requires c κs = search needs
 
 returns : tie.Need-returns
-returns c = rw (c .before .before .act .ensures)
+returns c = rw (c .put-record .ensures, c .before .before .before .act .ensures)
 
 pub carry-out-spec : {M : Type 1} → statement M
 carry-out-spec =
-    tie.close
-    (tie.spec mul-r element-copy-out-r act-requires mul-after element-set-from-after returns)
+    tie.close (tie.spec mul-r element-copy-out-r act-requires put-record-requires returns)

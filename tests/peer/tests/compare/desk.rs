@@ -96,6 +96,11 @@ impl Desk {
         }
     }
 
+    /// After the last step it is the same on both sides.
+    pub fn image(&self) -> &[u8] {
+        &self.image.peer[self.image.window.clone()]
+    }
+
     pub fn take_event(&mut self, event: &Event) -> &[u8] {
         let mut line = [0; LINE_OCTETS];
         let length = write_event(event, &mut line);
@@ -131,11 +136,16 @@ impl Desk {
         }
         let answer = &self.answer.peer[self.answer.window.clone()][..peer_count];
         self.tally.note_field(peer_field);
-        self.tally.note(&self.image_before, &self.line.peer[self.line.window.clone()], answer);
+        self.tally.note(
+            [&self.image_before, &self.image.peer[self.image.window.clone()]],
+            &self.line.peer[self.line.window.clone()],
+            answer,
+        );
         answer
     }
 
-    fn differ(&self, what: &str) -> ! {
+    /// Ends the run as failed, with all that the last step had before it.
+    pub fn differ(&self, what: &str) -> ! {
         let records = self.image_before.chunks(RECORD_OCTETS).enumerate();
         for (index, record) in records.filter(|(_, record)| record.iter().any(|octet| *octet != 0)) {
             println!("  image before, record of place {}: {record:02x?}", index + 1);

@@ -1,8 +1,9 @@
-//! What the documents say with numbers, on both sides: "One session in full", "Twelve edges to prove", and requests Q-1
-//! and Q-3.
+//! What the documents say with numbers, on both sides: "One session in full", "Twelve edges to prove", and requests Q-1,
+//! Q-3 and Q-4.
 
 use peer::{
-    write_image, Call, Connection, Event, Invoke, Place, Record, State, Table, ANSWER_OCTETS, IMAGE_OCTETS,
+    write_image, Call, Connection, Event, Invoke, Place, Rank, Record, Side, State, Table, ANSWER_OCTETS,
+    IMAGE_OCTETS,
 };
 
 use crate::desk::Desk;
@@ -34,10 +35,14 @@ const SESSION: [(&str, &str); 5] = [
 /// The call of the edges and of the requests. Other places taken hold the calls 101 and up.
 const CALL: Call = Call(7);
 
+/// The calls of a side came in the order in which they are given.
 fn with(records: &[(usize, Record)]) -> Table {
     let mut all = [Record::FREE; Table::PLACES];
+    let mut came = [0; 2];
     for &(place, record) in records {
-        all[place - 1] = record;
+        let came = &mut came[Side::of(place - 1) as usize];
+        *came += 1;
+        all[place - 1] = Record { rank: Rank(*came), ..record };
     }
     Table::from_records(all).expect("a sound table")
 }
@@ -106,7 +111,59 @@ const REFUSED: [(u8, Sent); 2] = [(3, NOTHING), (4, "6\t900\t0\t2")];
 /// The count is 1, and in state 4 the connection 65,535.
 fn held(place: usize, state: State) -> Table {
     let connection = Connection(if state == State::CpickupRemoteRequested { 65_535 } else { 0 });
-    with(&[(place, Record { state, call: CALL, connection, count: Invoke(1) })])
+    with(&[(place, Record { state, call: CALL, connection, count: Invoke(1), ..Record::FREE })])
+}
+
+/// Kind, call, place, choice, invoke.
+type Asked = (u8, u128, u16, u8, u16);
+/// Call, place, state.
+type Given = (u128, u16, u8);
+
+/// Whose ranks the session of Q-4 looks at.
+const RANKED: [usize; 5] = [40, 1, 20, 90, 70];
+
+/// From the empty table: an event, what its answer begins with, and the ranks at the places above afterwards.
+const LONGEST_WAITING_FIRST: [(Asked, Given, [u8; 5]); 19] = [
+    ((1, 1, 40, 0, 0), (1, 40, 1), [1, 0, 0, 0, 0]),
+    ((1, 2, 1, 0, 0), (2, 1, 1), [1, 2, 0, 0, 0]),
+    ((2, 4, 90, 0, 0), (4, 90, 2), [1, 2, 0, 1, 0]),
+    ((1, 3, 20, 0, 0), (3, 20, 1), [1, 2, 3, 1, 0]),
+    ((2, 5, 70, 0, 0), (5, 70, 2), [1, 2, 3, 1, 2]),
+    // Position 40 is served before position 1, and line 90 before line 70.
+    ((4, 0, 0, 1, 0), (1, 40, 4), [1, 2, 3, 1, 2]),
+    ((4, 0, 0, 1, 0), (2, 1, 4), [1, 2, 3, 1, 2]),
+    ((3, 0, 0, 2, 0), (4, 90, 3), [1, 2, 3, 1, 2]),
+    // Sent back by an error, position 40 is again the first.
+    ((6, 1, 0, 0, 1), (1, 40, 1), [1, 2, 3, 1, 2]),
+    ((4, 0, 0, 1, 0), (1, 40, 4), [1, 2, 3, 1, 2]),
+    // Handed over, the call keeps its place and its rank until the release.
+    ((5, 1, 0, 0, 2), (1, 40, 5), [1, 2, 3, 1, 2]),
+    ((6, 2, 0, 0, 1), (2, 1, 1), [1, 2, 3, 1, 2]),
+    ((8, 1, 0, 0, 0), (1, 40, 0), [0, 1, 2, 1, 2]),
+    // The same call at the same place is a new stay, behind those that are there.
+    ((1, 1, 40, 0, 0), (1, 40, 1), [3, 1, 2, 1, 2]),
+    ((3, 0, 0, 1, 0), (2, 1, 3), [3, 1, 2, 1, 2]),
+    ((3, 0, 0, 1, 0), (3, 20, 3), [3, 1, 2, 1, 2]),
+    // Line 70 moves up on its side; nobody came after position 40; after position 1 came position 20.
+    ((8, 4, 0, 0, 0), (4, 90, 0), [3, 1, 2, 0, 1]),
+    ((8, 1, 0, 0, 0), (1, 40, 0), [0, 1, 2, 0, 1]),
+    ((5, 2, 0, 0, 2), (2, 1, 0), [0, 0, 1, 0, 1]),
+];
+
+fn longest_waiting_first(desk: &mut Desk) {
+    desk.load(&[0; IMAGE_OCTETS]);
+    for ((kind, call, place, choice, invoke), (given, at, state), ranks) in LONGEST_WAITING_FIRST {
+        let (call, place, invoke) = (Call(call), Place(place), Invoke(invoke));
+        let answer = desk.take_event(&Event { kind, call, place, choice, invoke, ..Event::default() });
+        if !answer.starts_with(format!("0\t{given:032x}\t{at}\t{state}\t").as_bytes()) {
+            desk.differ("request Q-4 serves another call");
+        }
+        // By the numbers of the document: 22 octets a place, the rank last.
+        let image = desk.image();
+        if image.len() != 2_112 || RANKED.map(|place| image[22 * (place - 1) + 21]) != ranks {
+            desk.differ("request Q-4 has other ranks, or an image of another size");
+        }
+    }
 }
 
 pub fn run(desk: &mut Desk) {
@@ -138,9 +195,13 @@ pub fn run(desk: &mut Desk) {
             }
         }
     }
+    desk.begin("document, request Q-4", 0);
+    longest_waiting_first(desk);
     let (lines, edges, ends, taken) = (SESSION.len(), edges().len(), ENDS.len(), TAKEN.len());
     println!(
-        "document: session of {lines} lines, {edges} edges, {ends} ends of a stay by Q-1, {taken} states by Q-3"
+        "document: session of {lines} lines, {edges} edges, {ends} ends of a stay by Q-1, {taken} states by Q-3, \
+         session of {} events by Q-4",
+        LONGEST_WAITING_FIRST.len()
     );
 }
 

@@ -3,15 +3,17 @@
 use peer::trial::{line_of, sound_table, Follower, Rng};
 use peer::{write_image, Event, State, Table, ANSWER_OCTETS, IMAGE_OCTETS, RECORD_OCTETS};
 
-use crate::damage;
 use crate::desk::Desk;
+use crate::{damage, ranks};
 
 pub fn run(desk: &mut Desk) {
     part(desk, "following tables", following);
     part(desk, "counts near their wrap", high_counts);
     part(desk, "pickups of taken calls", taken_calls);
+    part(desk, "pickups by choice at any ranks", any_ranks);
     part(desk, "damaged lines", damaged_lines);
     part(desk, "damaged images", damaged_images);
+    part(desk, "damaged ranks", damaged_ranks);
     part(desk, "short buffers", short_buffers);
 }
 
@@ -64,6 +66,22 @@ fn taken_calls(desk: &mut Desk, name: &'static str) {
             for kind in [[3, 4], [4, 3]][follower.rng.below(2)] {
                 desk.take_event(&Event { kind, call: record.call, choice: 0, ..follower.event(&table) });
             }
+        }
+    }
+}
+
+/// Many pickups by choice, from tables in which the order of the places says nothing about the order of the calls.
+fn any_ranks(desk: &mut Desk, name: &'static str) {
+    for seed in 0..200 {
+        let fill = [6, 24, 48, 96][seed as usize % 4];
+        let mut follower = Follower::new(seed, fill);
+        desk.begin(name, seed);
+        desk.load(&image_of(&sound_table(&mut Rng::new(seed + 500), fill)));
+        for _ in 0..150 {
+            let event = follower.event(&desk.table());
+            let rng = &mut follower.rng;
+            let by_choice = Event { kind: rng.one_of(&[3, 4]), choice: rng.one_of(&[1, 2]), ..event };
+            desk.take_event(if rng.percent(30) { &by_choice } else { &event });
         }
     }
 }
@@ -121,6 +139,9 @@ fn damaged_images(desk: &mut Desk, name: &'static str) {
                 let mut image = sound.clone();
                 image[start] = state;
                 attempt(desk, "image with a state set", &image);
+                // A place taken or freed like this breaks the rank rule, which would hide whether the state fits.
+                ranks::mend(&mut image);
+                attempt(desk, "image with a state set and its ranks mended", &image);
                 image[start + 17..start + 19].copy_from_slice(&values.one_of(&[[0, 1], [1, 0], [255, 255]]));
                 attempt(desk, "image with a state and a connection set", &image);
                 image[start + 17..start + 19].fill(0);
@@ -135,11 +156,44 @@ fn damaged_images(desk: &mut Desk, name: &'static str) {
                 attempt(desk, "image with one call at two places", &image);
             }
         }
-        for length in [0, 1, 20, 21, 2015, 2017, 2272, 4032, 67_552] {
+        for length in [0, 1, 21, 22, 2016, 2090, 2111, 2113, 2134, 2368, 4224, 67_648] {
             let mut repeated = sound.repeat(34);
             repeated.truncate(length);
             attempt(desk, "image of another length", &repeated);
             attempt(desk, "image of another length", &vec![0; length]);
+        }
+    }
+}
+
+/// What an image with spoilt ranks is answered by, whatever the line.
+const REFUSED: &[u8] = b"25\t00000000000000000000000000000000\t0\t0\t0\t0\t0\t0\t0\t0\t0\t0\t0\t0\n";
+
+fn damaged_ranks(desk: &mut Desk, name: &'static str) {
+    for (seed, fill) in [0, 2, 3, 6, 24, 48, 90, 96].into_iter().enumerate() {
+        let seed = seed as u64 + 300;
+        let mut rng = Rng::new(seed);
+        let table = sound_table(&mut rng, fill);
+        let sound = image_of(&table);
+        let mut follower = Follower::new(seed, fill);
+        desk.begin(name, seed);
+        for (case, image) in ranks::spoilt(&sound) {
+            desk.load(&image);
+            let event = follower.event(&table);
+            let answer = match rng.percent(95) {
+                true => desk.take_event(&event),
+                false => desk.take(&damage::random(&mut rng, &event), ANSWER_OCTETS),
+            };
+            if answer != REFUSED || desk.image() != image {
+                desk.differ(&format!("both take an image as sound, or change it: {case}"));
+            }
+            desk.tally.case(case);
+        }
+        for (case, image) in ranks::reordered(&sound) {
+            desk.load(&image);
+            if desk.take_event(&follower.event(&table)) == REFUSED {
+                desk.differ(&format!("both refuse a sound image: {case}"));
+            }
+            desk.tally.case(case);
         }
     }
 }

@@ -1,5 +1,5 @@
-//! The product against the peer, octet by octet, from fixed seeds; and on whole runs of the peer, their rearrangement
-//! and what the pickers are told.
+//! The product against the peer, octet by octet, from fixed seeds; and on whole runs, their rearrangement, what the
+//! pickers are told, and who is served first.
 //!
 //! Every part prints one line of counts. The first difference ends the run with what is needed to see it again.
 
@@ -7,9 +7,11 @@ mod damage;
 mod desk;
 mod document;
 mod entry;
+mod fair;
 mod pickers;
 mod product;
 mod program;
+mod ranks;
 mod rearrange;
 mod runs;
 mod tally;
@@ -25,6 +27,7 @@ fn main() {
     program::run();
     rearrange::run();
     pickers::run();
+    fair::run();
     println!("all parts agree, {:.1} s", start.elapsed().as_secs_f64());
 }
 

@@ -1,5 +1,5 @@
 //! Demand 3 tried on the peer's own runs: the stays of a run, taken one after the other, give the same answers and
-//! the same table.
+//! the same table, its ranks included.
 
 use peer::{step, write_answer, Answer, Event, State, Table, ANSWER_OCTETS};
 
@@ -14,7 +14,7 @@ type Stay = Vec<usize>;
 struct Stays {
     /// In the order in which they ended.
     ended: Vec<Stay>,
-    /// In the order of their places.
+    /// In the order in which they began, since the ranks of the table tell that order.
     running: Vec<Stay>,
 }
 
@@ -24,15 +24,19 @@ enum Slip {
     PickupsNotByName,
     ProposalsKept,
     RunningFirst,
+    RunningByPlace,
+    RunningBackwards,
     TwoEventsSwapped,
     EventLost,
     EventDoubled,
 }
 
-const SLIPS: [(Slip, &str); 6] = [
+const SLIPS: [(Slip, &str); 8] = [
     (Slip::PickupsNotByName, "pickups not by name"),
     (Slip::ProposalsKept, "proposals kept"),
     (Slip::RunningFirst, "running stays first"),
+    (Slip::RunningByPlace, "running stays in the order of their places"),
+    (Slip::RunningBackwards, "the running stay that began last taken first"),
     (Slip::TwoEventsSwapped, "two events swapped"),
     (Slip::EventLost, "an event lost"),
     (Slip::EventDoubled, "an event doubled"),
@@ -75,12 +79,20 @@ fn stays_of(run: &Run) -> Stays {
             ended.push(std::mem::take(stay));
         }
     }
-    Stays { ended, running: places.into_iter().filter(|stay| !stay.is_empty()).collect() }
+    let mut running: Vec<Stay> = places.into_iter().filter(|stay| !stay.is_empty()).collect();
+    running.sort_by_key(|stay| stay[0]);
+    Stays { ended, running }
 }
 
 /// The events in their new order, each as it asks there.
 fn rearranged(run: &Run, stays: &Stays, slip: Option<Slip>) -> Vec<(usize, Event)> {
-    let mut parts = [&stays.ended, &stays.running];
+    let mut running = stays.running.clone();
+    match slip {
+        Some(Slip::RunningByPlace) => running.sort_by_key(|stay| run[stay[0]].1.place.0),
+        Some(Slip::RunningBackwards) => running.reverse(),
+        _ => {}
+    }
+    let mut parts = [&stays.ended, &running];
     if slip == Some(Slip::RunningFirst) {
         parts.reverse();
     }
@@ -127,6 +139,10 @@ fn check(seed: u64, run: &Run, stays: &Stays, table: &Table) {
         if stay.iter().filter(|&&index| run[index].0.kind == 5).count() > 1 {
             fail(&format!("rearrangement, seed {seed}: two results accepted in one stay"));
         }
+    }
+    let starts = order.iter().filter(|(_, event)| matches!(event.kind, 1 | 2)).map(|(index, _)| *index);
+    if !starts.skip(stays.ended.len()).is_sorted() {
+        fail(&format!("rearrangement, seed {seed}: the running stays are not in the order of their starts"));
     }
     if !agrees(run, &order, table) {
         fail(&format!("rearrangement, seed {seed}: another answer or another table"));

@@ -3,10 +3,11 @@
 use std::collections::{BTreeMap, BTreeSet};
 use std::fmt::{Debug, Display};
 
-use peer::{read_line, Event, Table, RECORD_OCTETS};
+use peer::{read_image, read_line, Event, Table, IMAGE_OCTETS, RECORD_OCTETS};
 
 use crate::document::TAKEN;
 use crate::fail;
+use crate::ranks::{mend, RANK, SIDES};
 
 #[derive(Default)]
 pub struct Tally {
@@ -18,15 +19,63 @@ pub struct Tally {
     accepted: BTreeMap<(bool, u8, u8), u64>,
     /// Refused pickups of a call in the table, asked for by name: side, state before, kind, answer number.
     taken: BTreeMap<(bool, u8, u8, usize), u64>,
+    /// Accepted events by side (position or line) and what they have to do with ranks.
+    ranked: BTreeMap<(bool, Ranked), u64>,
     /// Lines by the field that is to blame, 0 for none.
     fields: BTreeMap<u8, u64>,
+    /// Images refused by 25 that would be sound with other ranks.
+    refused_by_ranks: u64,
     cases: BTreeMap<&'static str, u64>,
     /// Answers by their length.
     lengths: BTreeMap<usize, u64>,
 }
 
+/// What an accepted event has to do with the ranks of its side. A pickup by choice may be of more than one sort.
+#[derive(Clone, Copy, PartialEq, Eq, PartialOrd, Ord, Debug)]
+enum Ranked {
+    EntersAlone,
+    EntersBehindOthers,
+    /// With the highest rank that there is.
+    EntersLastFreePlace,
+    /// By choice, while a higher place waits too, but none that is lower.
+    ServedAtLowestPlace,
+    /// By choice, while a lower place waits too.
+    ServedBeforeLowerPlace,
+    /// By choice, while a call that came earlier is held but does not wait.
+    ServedAfterTaken,
+    /// To waiting, with the rank that it had, and somebody came after it.
+    SentBackBeforeOthers,
+    /// To waiting, with the rank that it had, and nobody came after it.
+    SentBackLast,
+    EndsAlone,
+    /// All the others of the side move up.
+    EndsFirst,
+    /// Some of the others move up.
+    EndsBetween,
+    /// The highest rank of several; nobody moves up.
+    EndsLast,
+}
+
+const RANKED: [Ranked; 12] = [
+    Ranked::EntersAlone,
+    Ranked::EntersBehindOthers,
+    Ranked::EntersLastFreePlace,
+    Ranked::ServedAtLowestPlace,
+    Ranked::ServedBeforeLowerPlace,
+    Ranked::ServedAfterTaken,
+    Ranked::SentBackBeforeOthers,
+    Ranked::SentBackLast,
+    Ranked::EndsAlone,
+    Ranked::EndsFirst,
+    Ranked::EndsBetween,
+    Ranked::EndsLast,
+];
+
 /// How many names `Tally::case` is called with.
-const CASES: usize = 35;
+const CASES: usize = 52;
+
+/// How often an image must have been refused for its ranks alone.
+const LEAST_BY_RANKS: u64 = 10_000;
 
 /// The answer numbers up to this one come from the event; those of its line, the image and the buffer begin at 21.
 const LAST_OF_EVENT: usize = 12;
@@ -62,26 +111,70 @@ impl Tally {
         *self.fields.entry(field).or_default() += 1;
     }
 
-    /// `image` is the one before the step.
-    pub fn note(&mut self, image: &[u8], line: &[u8], answer: &[u8]) {
+    /// The images before and after the step.
+    pub fn note(&mut self, [image, after]: [&[u8]; 2], line: &[u8], answer: &[u8]) {
         self.steps += 1;
         *self.lengths.entry(answer.len()).or_default() += 1;
         let text = std::str::from_utf8(answer).unwrap_or_default();
         let field = |index| text.trim_end().split('\t').nth(index).and_then(|field| field.parse::<usize>().ok());
         let number = field(0).unwrap_or(26);
         self.numbers[number] += 1;
+        if number == 25 && image.len() == IMAGE_OCTETS {
+            let mut mended = image.to_vec();
+            mend(&mut mended);
+            self.refused_by_ranks += u64::from(read_image(&mended).is_ok());
+        }
         if let (Ok(event), true) = (read_line(line), number <= LAST_OF_EVENT) {
             self.note_event(image, &event, number);
             if number == 0 {
                 let index = field(2).expect("a place") - 1;
                 let key = (index < Table::POSITIONS, image[RECORD_OCTETS * index], event.kind);
                 *self.accepted.entry(key).or_default() += 1;
+                self.note_ranks([image, after], &event, index);
                 if matches!(event.kind, 3 | 4) && field(6) == Some(0) {
                     self.case("pickup whose count wraps to 0");
                 }
                 if field(10) == Some(6) {
                     self.case("answer with a second message");
                 }
+            }
+        }
+    }
+
+    /// An accepted event at the place with this index.
+    fn note_ranks(&mut self, images: [&[u8]; 2], event: &Event, index: usize) {
+        let position = index < Table::POSITIONS;
+        let side = SIDES[usize::from(!position)].clone();
+        let capacity = side.len() / RECORD_OCTETS;
+        let places = || images[0][side.clone()].chunks(RECORD_OCTETS);
+        let calls = places().filter(|record| record[0] != 0).count();
+        let [(was, rank), (is, rank_after)] =
+            images.map(|image| &image[RECORD_OCTETS * index..]).map(|record| (record[0], record[RANK]));
+        let mut note = |sort| *self.ranked.entry((position, sort)).or_default() += 1;
+
+        match (was, is) {
+            (0, _) if calls == 0 => note(Ranked::EntersAlone),
+            (0, _) if calls + 1 == capacity => note(Ranked::EntersLastFreePlace),
+            (0, _) => note(Ranked::EntersBehindOthers),
+            (_, 0) if calls == 1 => note(Ranked::EndsAlone),
+            (_, 0) if rank == 1 => note(Ranked::EndsFirst),
+            (_, 0) if usize::from(rank) == calls => note(Ranked::EndsLast),
+            (_, 0) => note(Ranked::EndsBetween),
+            (4, 1 | 2) if rank != rank_after => {}
+            (4, 1 | 2) if usize::from(rank) == calls => note(Ranked::SentBackLast),
+            (4, 1 | 2) => note(Ranked::SentBackBeforeOthers),
+            _ => {}
+        }
+        if let (3 | 4, 1 | 2) = (event.kind, event.choice) {
+            let nth = index - side.start / RECORD_OCTETS;
+            let waits = |record: &[u8]| matches!(record[0], 1 | 2);
+            if places().take(nth).any(waits) {
+                note(Ranked::ServedBeforeLowerPlace);
+            } else if places().skip(nth + 1).any(waits) {
+                note(Ranked::ServedAtLowestPlace);
+            }
+            if places().any(|record| record[0] > 2 && record[RANK] < rank) {
+                note(Ranked::ServedAfterTaken);
             }
         }
     }
@@ -167,6 +260,10 @@ impl Tally {
         for (name, count) in &self.cases {
             println!("  {count:>8} {name}");
         }
+        println!("  {:>8} images refused for their ranks alone", self.refused_by_ranks);
+        if self.refused_by_ranks < LEAST_BY_RANKS {
+            fail(&format!("less than {LEAST_BY_RANKS} images were refused for their ranks alone"));
+        }
         let (longest, times) = self.lengths.last_key_value().expect("an answer");
         println!("  longest answer {longest} octets, {times} times");
         if *longest != LONGEST {
@@ -187,6 +284,8 @@ impl Tally {
             [3, 4].into_iter().flat_map(of_kind)
         });
         demand_sorts("taken calls asked for by name (side, state, kind, number)", &self.taken, taken, 500);
+        let ranked = [true, false].into_iter().flat_map(|position| RANKED.map(|sort| (position, sort)));
+        demand_sorts("events by what they have to do with ranks (side, sort)", &self.ranked, ranked, 1_000);
         demand_sorts("fields to blame, or none", &self.fields, 0..=7, 3_000);
     }
 }

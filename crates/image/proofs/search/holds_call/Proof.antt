@@ -24,8 +24,8 @@ shared-slice-read-result c = search needs
 abbrev first : tie.After-same-call → tie.Start
 first c = c .before .before .before
 
-agrees : (c : tie.After-same-call) → c .same-call .result ≡ sameCall (take 16 (drop (first c .args .i * 21 + 1) (first c .args .image .now))) (first c .args .call .now)
-agrees c = c .same-call .ensures ∙ ap (sameCall (take 16 (drop (first c .args .i * 21 + 1) (first c .args .image .now)))) (whole-call (first c .args .call .now) (first c .pre .2))
+agrees : (c : tie.After-same-call) → c .same-call .result ≡ sameCall (take 16 (drop (first c .args .i * 22 + 1) (first c .args .image .now))) (first c .args .call .now)
+agrees c = c .same-call .ensures ∙ ap (sameCall (take 16 (drop (first c .args .i * 22 + 1) (first c .args .image .now)))) (whole-call (first c .args .call .now) (first c .pre .2))
 
 returns : tie.Need-returns
 returns c =

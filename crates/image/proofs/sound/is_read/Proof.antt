@@ -7,13 +7,13 @@ use Rattle.image.proofs.sound.is_read.Statement.{statement}
 use Rattle.image.proofs.sound.is_read.Tie as tie
 
 returns : tie.Need-returns
-returns c = rw (ne-eqb _ 2016 (c .if1 .taken))
+returns c = rw (ne-eqb _ 2112 (c .if1 .taken))
 
 places-sound-requires : tie.Need-places-sound-requires
 places-sound-requires c κs = search needs
 
 returns-2 : tie.Need-returns-2
-returns-2 c = c .places-sound .ensures ∙ rw (eq-eqb _ 2016 (c .before .if1 .left))
+returns-2 c = c .places-sound .ensures ∙ rw (eq-eqb _ 2112 (c .before .if1 .left))
 
 pub is-read-spec : {M : Type 1} → statement M
 is-read-spec = tie.close (tie.spec returns places-sound-requires returns-2)

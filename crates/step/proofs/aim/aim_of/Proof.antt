@@ -3,7 +3,8 @@
 use mathlib.Core.Path.{sym, ap, _∙_}
 use Rattle.events.specs.declared.refusal.Refusal.the-variants.{NothingWaits}
 use Rattle.events.specs.Rule.{ruleOf}
-use Rattle.step.specs.Aim.{aimAt, nextWaiting}
+use Rattle.table.specs.Ranks.{nextWaiting}
+use Rattle.step.specs.Aim.{aimAt}
 use Rattle.step.proofs.Soughts.{aim-sought}
 use borrow.Author.Needs.{needs}
 use Rattle.step.proofs.aim.aim_of.Statement.{statement}
