@@ -15,8 +15,8 @@ use Rattle.events.specs.declared.sought.Sought.{Sought}
 use Rattle.events.specs.declared.sought.Sought.the-variants.{Held, Waiting, Room, Never}
 use Rattle.events.specs.Rule.{ruleOf}
 
--- kinds 3 and 4: "Choice 0 takes the named call; 1 the lowest position in state 1; 2 the lowest line in state 2"; "choice above 2" is
--- refused by 2
+-- kinds 3 and 4: "Choice 0 takes the named call"; 1 the next waiting call of the positions, 2 of the lines (Q-4 says which that is); "choice
+-- above 2" is refused by 2
 abbrev pub soughtPickup : ℕ → Sought
 soughtPickup choice = cond (eqb choice 0) Held (cond (eqb choice 1) (Waiting Position) (cond (eqb choice 2) (Waiting Line) (Never ChoiceOrTimer)))
 

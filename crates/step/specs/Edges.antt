@@ -33,24 +33,28 @@ abbrev pub down : ℕ → List ℕ
 down zero = []
 down (suc k) = suc k ∷ down k
 
+-- the record of a call in a state, asked for so many times, with no connection
+abbrev pub ofCall : ℕ → State → ℕ → Record
+ofCall n s count = record { state = s; call = callOf n; connection = noConnection; count = record { 0 = count } }
+
 -- k parked calls: k, k - 1, .. 1
 abbrev pub parked : ℕ → List Record
 parked zero = []
-parked (suc k) = record { state = ParkWaiting; call = callOf (suc k); connection = noConnection; count = record { 0 = 0 } } ∷ parked k
+parked (suc k) = ofCall (suc k) ParkWaiting 0 ∷ parked k
 
 abbrev pub allTaken : Table
 allTaken = record { places = parked 64 ++ replicate 32 freeRecord; ranks = down 64 ++ replicate 32 0 }
 
--- calls 1, 2 and 3 at positions 3, 2 and 1 and call 4 at a line, by their records and ranks, from position 1 on
-abbrev pub four : List Record → List ℕ → Record → ℕ → Table
-four rs ks line rank = record { places = rs ++ (replicate 61 freeRecord ++ (line ∷ replicate 31 freeRecord)); ranks = ks ++ (replicate 61 0 ++ (rank ∷ replicate 31 0)) }
+-- calls at positions 1, 2 and 3, by their records and ranks, and call 4, which waits at line 65 with rank 1
+abbrev pub four : List Record → List ℕ → Table
+four rs ks = record {
+  places = rs ++ (replicate 61 freeRecord ++ (ofCall 4 LineWaiting 0 ∷ replicate 31 freeRecord));
+  ranks = ks ++ (replicate 61 0 ++ (1 ∷ replicate 31 0));
+}
 
--- a record of call n that waits at a position, asked for n times
+-- call n waits at a position, after it was asked for so many times
 abbrev pub waiting : ℕ → ℕ → Record
-waiting n count = record { state = ParkWaiting; call = callOf n; connection = noConnection; count = record { 0 = count } }
-
-abbrev pub alerting : Record
-alerting = record { state = LineWaiting; call = callOf 4; connection = noConnection; count = noInvoke }
+waiting n count = ofCall n ParkWaiting count
 
 -- a pickup of the next waiting position
 abbrev pub nextPosition : Event
@@ -146,24 +150,24 @@ edges =
     ∷ refusal (with 71 (held HandedOver 0 1)) (event 3 1 0 0 0) (answer 12 noCall 0 0 0 0 0 0 0 0 0 0 0 0)
     ∷ refusal (with 71 (held HandedOver 0 1)) (pickrequ 901) (answer 12 noCall 0 0 6 901 0 2 0 0 0 0 0 0)
     -- Q-4. Three calls came to positions 3, 2 and 1: choice 1 takes position 3. Its rank stays while it is asked for, and the next is at position 2.
-    ∷ edge (four (waiting 3 0 ∷ waiting 2 0 ∷ waiting 1 0 ∷ []) (3 ∷ 2 ∷ 1 ∷ []) alerting 1) nextPosition
-    (four (waiting 3 0 ∷ waiting 2 0 ∷ held Requested 0 1 ∷ []) (3 ∷ 2 ∷ 1 ∷ []) alerting 1) (answer 0 (callOf 1) 3 3 3 0 1 0 2 0 0 0 0 0)
-    ∷ edge (four (waiting 3 0 ∷ waiting 2 0 ∷ held Requested 0 1 ∷ []) (3 ∷ 2 ∷ 1 ∷ []) alerting 1) nextPosition
-    (four (waiting 3 0 ∷ record { state = Requested; call = callOf 2; connection = noConnection; count = record { 0 = 1 } } ∷ held Requested 0 1 ∷ []) (3 ∷ 2 ∷ 1 ∷ []) alerting 1)
+    ∷ edge (four (waiting 3 0 ∷ waiting 2 0 ∷ waiting 1 0 ∷ []) (3 ∷ 2 ∷ 1 ∷ [])) nextPosition
+    (four (waiting 3 0 ∷ waiting 2 0 ∷ held Requested 0 1 ∷ []) (3 ∷ 2 ∷ 1 ∷ [])) (answer 0 (callOf 1) 3 3 3 0 1 0 2 0 0 0 0 0)
+    ∷ edge (four (waiting 3 0 ∷ waiting 2 0 ∷ held Requested 0 1 ∷ []) (3 ∷ 2 ∷ 1 ∷ [])) nextPosition
+    (four (waiting 3 0 ∷ ofCall 2 Requested 1 ∷ held Requested 0 1 ∷ []) (3 ∷ 2 ∷ 1 ∷ []))
     (answer 0 (callOf 2) 2 3 3 0 1 0 2 0 0 0 0 0)
     -- Q-4. A call sent back to waiting is served first again.
-    ∷ edge (four (waiting 3 0 ∷ waiting 2 0 ∷ waiting 1 1 ∷ []) (3 ∷ 2 ∷ 1 ∷ []) alerting 1) nextPosition
-    (four (waiting 3 0 ∷ waiting 2 0 ∷ held Requested 0 2 ∷ []) (3 ∷ 2 ∷ 1 ∷ []) alerting 1) (answer 0 (callOf 1) 3 3 3 0 2 0 2 0 0 0 0 0)
+    ∷ edge (four (waiting 3 0 ∷ waiting 2 0 ∷ waiting 1 1 ∷ []) (3 ∷ 2 ∷ 1 ∷ [])) nextPosition
+    (four (waiting 3 0 ∷ waiting 2 0 ∷ held Requested 0 2 ∷ []) (3 ∷ 2 ∷ 1 ∷ [])) (answer 0 (callOf 1) 3 3 3 0 2 0 2 0 0 0 0 0)
     -- Q-4. The call at position 2 is released: only the rank above it drops, and the line keeps its own.
-    ∷ edge (four (waiting 3 0 ∷ waiting 2 0 ∷ waiting 1 0 ∷ []) (3 ∷ 2 ∷ 1 ∷ []) alerting 1) (event 8 2 0 0 0)
-    (four (waiting 3 0 ∷ freeRecord ∷ waiting 1 0 ∷ []) (2 ∷ 0 ∷ 1 ∷ []) alerting 1) (answer 0 (callOf 2) 2 0 0 0 0 0 0 1 0 0 0 0)
+    ∷ edge (four (waiting 3 0 ∷ waiting 2 0 ∷ waiting 1 0 ∷ []) (3 ∷ 2 ∷ 1 ∷ [])) (event 8 2 0 0 0)
+    (four (waiting 3 0 ∷ freeRecord ∷ waiting 1 0 ∷ []) (2 ∷ 0 ∷ 1 ∷ [])) (answer 0 (callOf 2) 2 0 0 0 0 0 0 1 0 0 0 0)
     -- Q-4. A call that comes after it is the last of its side, at position 2 again.
-    ∷ edge (four (waiting 3 0 ∷ freeRecord ∷ waiting 1 0 ∷ []) (2 ∷ 0 ∷ 1 ∷ []) alerting 1) (event 1 5 0 0 0)
-    (four (waiting 3 0 ∷ waiting 5 0 ∷ waiting 1 0 ∷ []) (2 ∷ 3 ∷ 1 ∷ []) alerting 1) (answer 0 (callOf 5) 2 1 1 0 0 0 1 0 0 0 0 0)
-    -- Q-4. A rank that is not there, or there twice: 25.
-    ∷ refusal (four (waiting 3 0 ∷ waiting 2 0 ∷ waiting 1 0 ∷ []) (4 ∷ 2 ∷ 1 ∷ []) alerting 1) nextPosition (answer 25 noCall 0 0 0 0 0 0 0 0 0 0 0 0)
-    ∷ refusal (four (waiting 3 0 ∷ waiting 2 0 ∷ waiting 1 0 ∷ []) (3 ∷ 1 ∷ 1 ∷ []) alerting 1) nextPosition (answer 25 noCall 0 0 0 0 0 0 0 0 0 0 0 0)
-    ∷ refusal (four (waiting 3 0 ∷ freeRecord ∷ waiting 1 0 ∷ []) (2 ∷ 3 ∷ 1 ∷ []) alerting 1) nextPosition (answer 25 noCall 0 0 0 0 0 0 0 0 0 0 0 0)
+    ∷ edge (four (waiting 3 0 ∷ freeRecord ∷ waiting 1 0 ∷ []) (2 ∷ 0 ∷ 1 ∷ [])) (event 1 5 0 0 0)
+    (four (waiting 3 0 ∷ waiting 5 0 ∷ waiting 1 0 ∷ []) (2 ∷ 3 ∷ 1 ∷ [])) (answer 0 (callOf 5) 2 1 1 0 0 0 1 0 0 0 0 0)
+    -- Q-4. A rank above the number of calls, one that stands twice, one at a free place: 25.
+    ∷ refusal (four (waiting 3 0 ∷ waiting 2 0 ∷ waiting 1 0 ∷ []) (4 ∷ 2 ∷ 1 ∷ [])) nextPosition (answer 25 noCall 0 0 0 0 0 0 0 0 0 0 0 0)
+    ∷ refusal (four (waiting 3 0 ∷ waiting 2 0 ∷ waiting 1 0 ∷ []) (3 ∷ 1 ∷ 1 ∷ [])) nextPosition (answer 25 noCall 0 0 0 0 0 0 0 0 0 0 0 0)
+    ∷ refusal (four (waiting 3 0 ∷ freeRecord ∷ waiting 1 0 ∷ []) (2 ∷ 3 ∷ 1 ∷ [])) nextPosition (answer 25 noCall 0 0 0 0 0 0 0 0 0 0 0 0)
     ∷ []
 
 -- the step from the edge's table is the edge's answer and table
