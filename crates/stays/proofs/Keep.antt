@@ -108,7 +108,7 @@ module _ (m : Machine) (l : Laws m) where
   opens-other cs p r [] os n = tt
   opens-other cs p r (s ∷ ss) os n = (stands-other p r (os .0) (λ e. n (inl (sym e))), opens-other cs p r ss (os .1) (λ i. n (inr i)))
 
-  stand-at : (cs : List Core) (p : ℕ) (ss : List (Stay (Done Event Answer))) → Opens m l cs ss → In p (placesOf ss) → Stands m l cs p (eventsAt p ss)
+  pub stand-at : (cs : List Core) (p : ℕ) (ss : List (Stay (Done Event Answer))) → Opens m l cs ss → In p (placesOf ss) → Stands m l cs p (eventsAt p ss)
   stand-at cs p [] os b = absurd b
   stand-at cs p (s ∷ ss) os i = by (ℕ-discrete p (s .at)) i (stand-at cs p ss (os .1))
     where

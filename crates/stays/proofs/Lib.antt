@@ -2,6 +2,7 @@ pub mod Laws
 pub mod Part
 pub mod Build
 pub mod Keep
+pub mod Weights
 pub mod Same
 pub mod Every
 pub mod Once

@@ -96,7 +96,7 @@ module _ {p : ℕ} {r : Record} {e : Event} where
 
 -- ---- along a stay
 
-state-snoc : (n : ℕ) (xs : List Act) (x : Act) → stateAfter n (xs ++ (x ∷ [])) ≡ x .answer .state
+pub state-snoc : (n : ℕ) (xs : List Act) (x : Act) → stateAfter n (xs ++ (x ∷ [])) ≡ x .answer .state
 state-snoc n [] x = refl
 state-snoc n (y ∷ xs) x = state-snoc (y .answer .state) xs x
 
@@ -105,8 +105,8 @@ tell-snoc before [] x h t = (subst (λ l. TellsRequester l x) (append-nil before
 tell-snoc before (y ∷ xs) x h t = (h .0, tell-snoc (before ++ (y ∷ [])) xs x (h .1) (subst (λ l. TellsRequester l x) (sym (append-assoc before (y ∷ []) xs)) t))
 
 -- the events so far and the record at their place
-record Agrees (xs : List Act) (r : Record) : Type 0 where
-  state : stateAfter 0 xs ≡ stateNumber (r .state)
+pub record Agrees (xs : List Act) (r : Record) : Type 0 where
+  pub state : stateAfter 0 xs ≡ stateNumber (r .state)
   asked : stateNumber (r .state) ≡ 4 → LastRequest xs (r .connection)
   tell : AllTell [] xs
 
@@ -120,7 +120,7 @@ tells xs x {r} h turn = record {
   silent = λ other. told-nothing turn (λ four. other (h .state ∙ four));
 }
 
-part-agrees : {p : ℕ} {c : List ℕ} {xs : List Act} {r : Record} → Part machine laws p c xs r → Agrees xs r
+pub part-agrees : {p : ℕ} {c : List ℕ} {xs : List Act} {r : Record} → Part machine laws p c xs r → Agrees xs r
 part-agrees (begun {x} turn k q) = record {
   state = answer-of turn .2;
   asked = request [] x turn;

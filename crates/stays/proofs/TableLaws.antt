@@ -46,7 +46,7 @@ abbrev pub Shown : Table → List Record → List ℕ → Type 0
 Shown t cs o = (t .places ≡ cs) × Ordered t o
 
 -- inside the table it is the same what a read past its end would give
-read : (l : List Record) (i : ℕ) → i < length l → getD l i freeRecord ≡ getD l i blank
+pub read : (l : List Record) (i : ℕ) → i < length l → getD l i freeRecord ≡ getD l i blank
 read [] i h = absurd (not-suc-le-zero h)
 read (r ∷ rs) zero h = refl
 read (r ∷ rs) (suc i) h = read rs i (le-of-suc-le-suc h)

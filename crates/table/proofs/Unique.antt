@@ -14,6 +14,7 @@ use Rattle.table.proofs.Record.free.Reads as free
 use Rattle.table.proofs.Table.empty.Reads as empty
 use Rattle.table.proofs.timers.timer_set.Reads as timer-set
 use Rattle.table.proofs.timers.started.Reads as started
+use Rattle.table.proofs.search.same_call.Reads as same-call
 use Rattle.table.proofs.search.find_call.Reads as find-call
 use Rattle.table.proofs.search.is_at.Reads as is-at
 use Rattle.table.proofs.search.lowest_in.Reads as lowest-in
@@ -37,6 +38,7 @@ pub record Decided : Type 0 where
   pub empty-decided : Decides empty.Post
   pub timer-set-decided : Decides timer-set.Post
   pub started-decided : Decides started.Post
+  pub same-call-decided : Decides same-call.Post
   pub find-call-decided : Decides find-call.Post
   pub is-at-decided : Decides is-at.Post
   pub lowest-in-decided : Decides lowest-in.Post
@@ -61,6 +63,7 @@ decided = record {
   empty-decided = λ κ a x y d e p q. p ∙ sym q;
   timer-set-decided = λ κ a x y d e p q. p ∙ sym q;
   started-decided = λ κ a x y d e p q. p ∙ sym q;
+  same-call-decided = λ κ a x y d e p q. p ∙ sym q;
   find-call-decided = λ κ a x y d e p q. p ∙ sym q;
   is-at-decided = λ κ a x y d e p q. p ∙ sym q;
   lowest-in-decided = λ κ a x y d e p q. p ∙ sym q;

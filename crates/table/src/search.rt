@@ -9,7 +9,7 @@ ghost use mathlib.Core.Path.{_≡_};
 ghost use Rattle.table.specs.Search.{sameCall, holds, isAt, findCall, lowestIn};
 
 // Two calls octet by octet, as long as they agree.
-pub(crate) fn same_call(a: [u8; 16], b: [u8; 16]) -> bool
+pub fn same_call(a: [u8; 16], b: [u8; 16]) -> bool
     ensures { λ r. ⌜ r ≡ sameCall a b ⌝ }
 {
     let mut i: usize = 0;

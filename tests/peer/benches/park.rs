@@ -4,7 +4,7 @@
 //! A time is the least of many short rounds in which both sides take turns, so that whatever else the machine does
 //! falls on both and mostly drops out. The instructions are callgrind's counts, which repeat.
 
-// The query on a line is compared, but not measured.
+// The query on a line and the lamps are compared, but not measured.
 #[allow(dead_code)]
 #[path = "../tests/compare/product.rs"]
 mod product;

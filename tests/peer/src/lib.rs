@@ -1,5 +1,5 @@
-//! The park and pickup table of document 01, with requests of document 02, written a second time,
-//! from the documents alone.
+//! The park and pickup table of document 01, with requests of document 02, written a second
+//! time, from the documents alone.
 //!
 //! It serves as the other side of a comparison: the tests hold every octet of the product against it, and a
 //! benchmark may hold the product's speed against it. Remarks name the heading of document 01 in quotes.
@@ -7,12 +7,16 @@
 #![forbid(unsafe_code)]
 
 mod image;
+mod lamp_lines;
+mod lamps;
 mod lines;
 mod machine;
 mod table;
 pub mod trial;
 
 pub use image::{park_step, read_image, write_image, IMAGE_OCTETS, RECORD_OCTETS};
+pub use lamp_lines::{lamp_session, Asked, Given, INPUT_OCTETS};
+pub use lamps::{GpState, Indication, Lamps, Member, Notice, Notices, Reply, Request, Served, Settled};
 pub use lines::{bad_field, read_line, session, write_answer, write_event, ANSWER_OCTETS, LINE_OCTETS};
 pub use machine::{step, Answer, ErrorNumber, Event, Message, MessageNumber};
 pub use table::{refusal, Call, Connection, Invoke, Place, Rank, Record, Side, State, Status, Table};

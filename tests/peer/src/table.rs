@@ -1,6 +1,6 @@
 //! Places, records and the table ("Places and records", and the ranks of request Q-4).
 
-/// The numbers of "Refusal numbers" and of request Q-3. 26 is missing: no answer carries it.
+/// The numbers of "Refusal numbers" and of requests. 26 is missing: no answer carries it.
 pub mod refusal {
     pub const KIND: u8 = 1;
     pub const CHOICE_OR_TIMER: u8 = 2;
@@ -19,6 +19,8 @@ pub mod refusal {
     pub const NUMBER_FIELD: u8 = 23;
     pub const CALL_FIELD: u8 = 24;
     pub const TABLE: u8 = 25;
+    pub const MEMBER: u8 = 31;
+    pub const NOT_PENDING: u8 = 32;
 }
 
 /// The 16 octets of an H.225.0 CallIdentifier, first octet highest.

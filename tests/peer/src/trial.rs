@@ -41,7 +41,7 @@ impl Rng {
     }
 
     /// Any order of the items is as likely as any other.
-    fn shuffle<T>(&mut self, items: &mut [T]) {
+    pub fn shuffle<T>(&mut self, items: &mut [T]) {
         for last in (1..items.len()).rev() {
             items.swap(last, self.below(last + 1));
         }

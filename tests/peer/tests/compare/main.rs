@@ -1,5 +1,5 @@
 //! The product against the peer, octet by octet, from fixed seeds; and on whole runs, their rearrangement, what the
-//! pickers are told, and who is served first.
+//! pickers are told, who is served first, and what the pickup group is sent.
 //!
 //! Every part prints one line of counts. The first difference ends the run with what is needed to see it again.
 
@@ -8,6 +8,7 @@ mod desk;
 mod document;
 mod entry;
 mod fair;
+mod lamps;
 mod pickers;
 mod product;
 mod program;
@@ -28,6 +29,7 @@ fn main() {
     rearrange::run();
     pickers::run();
     fair::run();
+    lamps::run();
     println!("all parts agree, {:.1} s", start.elapsed().as_secs_f64());
 }
 

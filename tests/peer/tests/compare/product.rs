@@ -1,4 +1,4 @@
-//! What is compared with the peer: the static library's two functions, and the built program. The benchmark uses
+//! What is compared with the peer: the static library's two functions, and the built programs. The benchmark uses
 //! this file too.
 
 use std::path::PathBuf;
@@ -36,4 +36,9 @@ pub fn parkline() -> PathBuf {
         Some(path) => PathBuf::from(path),
         None => PathBuf::from(concat!(env!("CARGO_MANIFEST_DIR"), "/../../target/bin/parkline")),
     }
+}
+
+/// The program that tries the lamps.
+pub fn lampline() -> PathBuf {
+    PathBuf::from(concat!(env!("CARGO_MANIFEST_DIR"), "/../../target/bin/lampline"))
 }

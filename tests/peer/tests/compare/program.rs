@@ -27,7 +27,7 @@ pub fn run() {
 }
 
 /// How a stream is cut into pieces; no size means random ones.
-type Cuts = Option<usize>;
+pub type Cuts = Option<usize>;
 
 fn streams_to_try() -> Vec<(String, Vec<u8>, Cuts)> {
     let mut all = Vec::new();
@@ -97,7 +97,7 @@ fn edge_streams() -> Vec<(&'static str, Vec<u8>)> {
     ]
 }
 
-fn print_of(program: &Path, stream: &[u8], cuts: Cuts) -> Vec<u8> {
+pub fn print_of(program: &Path, stream: &[u8], cuts: Cuts) -> Vec<u8> {
     let child = Command::new(program).stdin(Stdio::piped()).stdout(Stdio::piped()).spawn();
     let mut child = child.unwrap_or_else(|error| fail(&format!("{}: {error}", program.display())));
     let mut output = child.stdout.take().expect("a pipe was asked for");

@@ -291,7 +291,7 @@ impl Tally {
 }
 
 /// Prints how often the rarest sort came, and fails where the sorts are not those expected, or one is too rare.
-fn demand_sorts<S: Copy + Ord + Debug>(
+pub fn demand_sorts<S: Copy + Ord + Debug>(
     name: &str,
     seen: &BTreeMap<S, u64>,
     expected: impl Iterator<Item = S>,

@@ -1,0 +1,143 @@
+-- An event as the lamps see it: it is refused, and nothing is sent; or it is done at one place, and what is sent goes by the move of that place, of
+-- which there are five (`Move`, crate `step`). All that is promised of the lamps goes by these cases.
+-- Assumes nothing.
+use mathlib.Core.Path.{_≡_, refl, sym, ap, _∙_}
+use mathlib.Core.Bool.{Bool, true, false, cond, _||_}
+use Prim.Native.Nat.{ℕ, _+_, _-_, _≤_, _<_}
+use native.Mathlib.Omega.{arith}
+use lib.Dec.{eqb, ltb}
+use lib.ListN.{length}
+use borrow.Author.Tests.{lt-ltb, eq-eqb, eqb-true, eqb-false}
+use Rattle.laws.proofs.Bools.{never}
+use Rattle.table.specs.declared.State.{State}
+use Rattle.table.specs.declared.State.the-variants.{Free, ParkWaiting, LineWaiting, Requested, RemoteRequested, HandedOver}
+use Rattle.table.specs.declared.Side.the-variants.{Position, Line}
+use Rattle.table.specs.declared.Table.{Table}
+use Rattle.table.specs.declared.Place.{Place}
+use Rattle.table.specs.Places.{stateNumber, isFree, placeAt, recordAt}
+use Rattle.events.specs.declared.Event.{Event}
+use Rattle.events.specs.declared.rule.Rule.{Rule}
+use Rattle.events.specs.declared.rule.Rule.the-variants.{Start, Unknown}
+use Rattle.events.specs.declared.rule.Rule.the-variants as Rules
+use Rattle.events.specs.declared.rule.Signal.{Signal}
+use Rattle.events.specs.Rule.{ruleOf}
+use Rattle.events.proofs.Refusals.{refused-not-0}
+use Rattle.step.specs.declared.Step.{Step}
+use Rattle.step.specs.Aim.{indexOf}
+use Rattle.step.specs.Step.{stepOf}
+use Rattle.step.specs.Promises.{Full, offered, Move, starts, goes-on, hands-over, ends, is-left, AtOnePlace}
+use Rattle.step.proofs.Aims.{less-one, same-index}
+use Rattle.step.proofs.Stepped.{Stepped, kept, begun, ended, went-on, stepped}
+use Rattle.step.proofs.Promises.{refusal-keeps, accepted-at-one-place}
+use Rattle.stays.proofs.OneTurn.{place-index}
+use Rattle.lamps.specs.declared.members.Indication.the-variants.{On, Off}
+use Rattle.lamps.specs.declared.members.Lamps.{Lamps}
+use Rattle.lamps.specs.declared.notice.Asks.{Asks}
+use Rattle.lamps.specs.declared.notice.Asks.the-variants.{NoOne, Each}
+use Rattle.lamps.specs.Notice.{startsStay, isOver, hadOff, asksFor, unlit, litBy}
+use Rattle.lamps.specs.Served.{litOf}
+
+-- ---- the place of an accepted event
+
+-- the number of a place, and its index
+pub record Inside (p : Place) : Type 0 where
+  pub from-1 : 1 ≤ p .0
+  pub to-96 : p .0 - 1 < 96
+  pub index : p .0 - 1 ≡ indexOf (p .0)
+
+-- the number of the place at an index is one above it
+pub place-number : (i : ℕ) → i < 96 → placeAt i .0 ≡ i + 1
+place-number i h = let in-table : ltb i 96 ≡ true = lt-ltb i 96 h in rw in-table
+
+pub accepted-inside : (t : Table) (e : Event) (s : Step) → Full t → s ≡ stepOf t e → s .answer .number ≡ 0 → Inside (s .answer .place)
+accepted-inside t e s full q h =
+    let x = accepted-at-one-place t e full (rw q at h) in
+    let number : s .answer .place .0 ≡ x .index + 1 = ap (λ (u : Step). u .answer .place .0) q ∙ ap (λ (p : Place). p .0) (x .place) ∙ place-number (x .index) (x .inside) in
+    record { from-1 = omega arith; to-96 = omega (arith, x .inside); index = less-one (s .answer .place .0) (omega arith) }
+
+-- ---- which events start a stay
+
+abbrev isStart : Rule → Bool
+isStart (Start d) = true
+isStart (Rules.On s) = false
+isStart Unknown = false
+
+no-start : (b : Bool) (s : Signal) (k : Rule) → isStart k ≡ false → isStart (cond b (Rules.On s) k) ≡ false
+no-start true s k h = refl
+no-start false s k h = h
+
+kind-starts : (kind : ℕ) → startsStay kind ≡ isStart (ruleOf kind)
+kind-starts kind =
+    by (eqb kind 1) (eqb kind 2) _
+    (no-start (eqb kind 3) _ _ (no-start (eqb kind 4) _ _ (no-start (eqb kind 5) _ _ (no-start (eqb kind 6) _ _
+    (no-start (eqb kind 7) _ _ (no-start (eqb kind 8) _ _ (no-start (eqb kind 9) _ _ (no-start (eqb kind 10) _ Unknown refl))))))))
+  where
+    by : (a b : Bool) (k : Rule) → isStart k ≡ false → (a || b) ≡ isStart (cond a (Start Position) (cond b (Start Line) k))
+    by true b k h = refl
+    by false true k h = refl
+    by false false k h = sym h
+
+module _ (t : Table) (full : Full t) (e : Event) where
+  starts-at : (s : Step) → Stepped t (full .0) e s → s .answer .number ≡ 0 → (x : AtOnePlace t s) → startsStay (e .kind) ≡ isFree (recordAt t (x .index) .state)
+  starts-at s (kept w) h x = absurd (refused-not-0 w h)
+  starts-at s (begun d i sound rule room) h x =
+      let same : x .index ≡ i = same-index (x .index) i (x .inside) (room .inside) (sym (x .place)) in
+      kind-starts (e .kind) ∙ ap isStart rule ∙ sym (rw same (room .vacant))
+  starts-at s (ended k i first second reached turned) h x =
+      let same : x .index ≡ i = same-index (x .index) i (x .inside) (reached .inside) (sym (x .place)) in
+      kind-starts (e .kind) ∙ ap isStart (reached .rule) ∙ sym (rw same (reached .occupied))
+  starts-at s (went-on k i g n m reached turned) h x =
+      let same : x .index ≡ i = same-index (x .index) i (x .inside) (reached .inside) (sym (x .place)) in
+      kind-starts (e .kind) ∙ ap isStart (reached .rule) ∙ sym (rw same (reached .occupied))
+
+-- ---- what each move sends
+
+-- a call that is on offer
+pub record OnOffer (s : State) : Type 0 where
+  pub held : isFree s ≡ false
+  pub due : hadOff s ≡ false
+  pub going : isOver (stateNumber s) ≡ false
+  pub not-0 : eqb (stateNumber s) 0 ≡ false
+  pub not-5 : eqb (stateNumber s) 5 ≡ false
+
+pub on-offer : (s : State) → offered s ≡ true → OnOffer s
+on-offer Free h = never h
+on-offer ParkWaiting h = record { held = refl; due = refl; going = refl; not-0 = refl; not-5 = refl }
+on-offer LineWaiting h = record { held = refl; due = refl; going = refl; not-0 = refl; not-5 = refl }
+on-offer Requested h = record { held = refl; due = refl; going = refl; not-0 = refl; not-5 = refl }
+on-offer RemoteRequested h = record { held = refl; due = refl; going = refl; not-0 = refl; not-5 = refl }
+on-offer HandedOver h = never h
+
+abbrev pub sends : {before after : State} → Move before after → Asks
+sends (starts o) = Each On
+sends (goes-on o p) = NoOne
+sends (hands-over o) = Each Off
+sends (ends o) = Each Off
+sends is-left = NoOne
+
+asks-by-move : (kind : ℕ) {before after : State} (m : Move before after) → startsStay kind ≡ isFree before → asksFor kind before (stateNumber after) ≡ sends m
+asks-by-move kind (starts o) q = rw q
+asks-by-move kind (goes-on {before} {after} o p) q = rw (q ∙ on-offer before o .held, on-offer before o .due, on-offer after p .going)
+asks-by-move kind (hands-over {before} o) q = rw (q ∙ on-offer before o .held, on-offer before o .due)
+asks-by-move kind (ends {before} o) q = rw (q ∙ on-offer before o .held, on-offer before o .due)
+asks-by-move kind is-left q = rw q
+
+-- ---- the view
+
+pub data Came (l : Lamps) (t : Table) (e : Event) (s : Step) : Type 0 where
+  refused : eqb (s .answer .number) 0 ≡ false → s .table ≡ t → litOf l t e (s .answer) ≡ unlit l → Came l t e s
+  done : (x : AtOnePlace t s) → eqb (s .answer .number) 0 ≡ true → startsStay (e .kind) ≡ isFree (recordAt t (x .index) .state)
+      → litOf l t e (s .answer) ≡ litBy l (x .index) (s .answer) (sends (x .move)) → Came l t e s
+
+pub came : (l : Lamps) (t : Table) (e : Event) → Full t → Came l t e (stepOf t e)
+came l t e full = by (eqb (stepOf t e .answer .number) 0) refl
+  where
+    by : (b : Bool) → eqb (stepOf t e .answer .number) 0 ≡ b → Came l t e (stepOf t e)
+    by false q = refused q (refusal-keeps t e full (eqb-false (stepOf t e .answer .number) 0 q)) (rw q)
+    by true q =
+        let number : stepOf t e .answer .number ≡ 0 = eqb-true (stepOf t e .answer .number) 0 q in
+        let x = accepted-at-one-place t e full number in
+        let from = starts-at t full e (stepOf t e) (stepped t (full .0) e) number x in
+        let at : indexOf (stepOf t e .answer .place .0) ≡ x .index = ap (λ (p : Place). indexOf (p .0)) (x .place) ∙ place-index (x .index) (x .inside) in
+        let asks = ap (asksFor (e .kind) (recordAt t (x .index) .state)) (x .state) ∙ asks-by-move (e .kind) (x .move) from in
+        done x q from (rw (q, at) (ap (litBy l (x .index) (stepOf t e .answer)) asks))

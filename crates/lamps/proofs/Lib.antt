@@ -1,0 +1,11 @@
+pub mod Numbers
+pub mod Pending
+pub mod Accepted
+pub mod Clause
+pub mod Along
+pub mod Clocks
+pub mod Counts
+pub mod Last
+pub mod Replies
+pub mod Promises
+pub mod Unique

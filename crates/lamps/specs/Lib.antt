@@ -1,0 +1,7 @@
+pub mod Members
+pub mod Notice
+pub mod Reply
+pub mod Served
+pub mod Runs
+pub mod Clause
+pub mod Promises
