@@ -6,8 +6,7 @@ use mathlib.Core.Bool.{Bool, true, false, cond, _||_}
 use Prim.Native.Nat.{ℕ, _+_, _-_, _≤_, _<_}
 use native.Mathlib.Omega.{arith}
 use lib.Dec.{eqb, ltb}
-use lib.ListN.{length}
-use borrow.Author.Tests.{lt-ltb, eq-eqb, eqb-true, eqb-false}
+use borrow.Author.Tests.{lt-ltb, eqb-true, eqb-false}
 use Rattle.laws.proofs.Bools.{never}
 use Rattle.table.specs.declared.State.{State}
 use Rattle.table.specs.declared.State.the-variants.{Free, ParkWaiting, LineWaiting, Requested, RemoteRequested, HandedOver}

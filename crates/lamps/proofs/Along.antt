@@ -5,12 +5,11 @@
 use mathlib.Core.Path.{_≡_, refl, sym, ap, _∙_, subst}
 use mathlib.Core.Bool.{Bool, true, false, cond, _||_}
 use mathlib.Core.List.{List, [], _∷_, _++_}
-use Prim.Native.Nat.{ℕ, _+_, _<_}
+use Prim.Native.Nat.{ℕ, _+_}
 use native.Mathlib.Nat.{zero-add}
 use native.Mathlib.Omega.{arith}
 use lib.Dec.{eqb}
 use lib.ListN.{length, getD, length-set, length-replicate}
-use borrow.Author.Tests.{eq-eqb, eqb-true}
 use Rattle.laws.proofs.Bools.{never}
 use Rattle.table.specs.declared.State.{State}
 use Rattle.table.specs.declared.State.the-variants.{Free, ParkWaiting, LineWaiting, Requested, RemoteRequested, HandedOver}
@@ -31,7 +30,6 @@ use Rattle.stays.specs.Stays.{Mark, starts, goes-on, ends, Stays, none, add, ke
 use Rattle.stays.specs.Stays as Fold
 use Rattle.stays.specs.ParkTable.{machine}
 use Rattle.stays.specs.Demand.{Act, stateAfter}
-use Rattle.stays.proofs.Laws.{Laws}
 use Rattle.stays.proofs.Part.{Part, begun, onward}
 use Rattle.stays.proofs.Build.{Inv, Stands}
 use Rattle.stays.proofs.Keep.{inv-taken, inv-none, occupied, stand-at}

@@ -1,9 +1,9 @@
 -- Clause 7.6 by place and member: a request changes every member at its place and none elsewhere, a reply one member at one place.
 -- Assumes nothing.
 use mathlib.Core.Path.{_≡_, refl, sym, ap, _∙_, subst}
-use mathlib.Core.Bool.{Bool, true, false, cond, _&&_}
-use mathlib.Core.List.{List, [], _∷_, map}
-use Prim.Native.Nat.{ℕ, zero, suc, _+_, _-_, _≤_, _<_}
+use mathlib.Core.Bool.{Bool, true, false, cond}
+use mathlib.Core.List.{List, [], _∷_}
+use Prim.Native.Nat.{ℕ, zero, suc, _+_, _-_, _<_}
 use native.Mathlib.Decide.{ℕ-discrete}
 use native.Mathlib.Omega.{arith}
 use lib.Dec.{eqb}
@@ -19,7 +19,6 @@ use Rattle.step.specs.Step.{stepOf}
 use Rattle.stays.proofs.Part.{getD-free}
 use Rattle.lamps.specs.declared.members.Indication.{Indication}
 use Rattle.lamps.specs.declared.members.Gp.{Gp}
-use Rattle.lamps.specs.declared.members.Gp.the-variants.{Idle}
 use Rattle.lamps.specs.declared.members.Lamp.{Lamp}
 use Rattle.lamps.specs.declared.members.Lamps.{Lamps}
 use Rattle.lamps.specs.declared.notice.Asks.{Asks}
@@ -32,7 +31,7 @@ use Rattle.lamps.specs.Notice.{newLamp, unlit, asked, litBy}
 use Rattle.lamps.specs.Reply.{findPending, replied, settledAt, settledBy, refusedReply, settledOf}
 use Rattle.lamps.specs.Served.{litOf}
 use Rattle.lamps.specs.Runs.{event, reply}
-use Rattle.lamps.specs.Clause.{Member, replies, nothing, next, startedBy, stoppedBy, memberIn, memberAt, asksAt, settlesAt, Follows, FollowsClause}
+use Rattle.lamps.specs.Clause.{replies, nothing, next, startedBy, stoppedBy, memberIn, memberAt, asksAt, settlesAt, FollowsClause}
 use Rattle.lamps.proofs.Numbers.{one-to}
 use Rattle.lamps.proofs.Accepted.{place-number, Came, refused, done, came, sends}
 use Rattle.lamps.proofs.Pending.{pending-hit}

@@ -10,16 +10,15 @@ use native.Mathlib.Omega.{arith}
 use lib.Dec.{eqb}
 use Rattle.laws.proofs.Bools.{never, not-both}
 use Rattle.table.specs.declared.State.{State}
-use Rattle.table.specs.declared.State.the-variants.{Free, HandedOver}
 use Rattle.table.specs.declared.Table.{Table}
 use Rattle.table.specs.Places.{stateNumber, isFree, emptyTable, recordAt}
 use Rattle.events.specs.declared.Event.{Event}
 use Rattle.events.specs.declared.Answer.{Answer}
 use Rattle.step.specs.Step.{stepOf}
-use Rattle.step.specs.Promises.{offered, Move, starts, goes-on, hands-over, ends, is-left, AtOnePlace}
+use Rattle.step.specs.Promises.{Move, starts, goes-on, hands-over, ends, is-left, AtOnePlace}
 use Rattle.stays.specs.Stays.{one-if, count, Stay, Stays, none, run, stays, allStays}
 use Rattle.stays.specs.ParkTable.{machine}
-use Rattle.stays.specs.Demand.{Act, stateAfter}
+use Rattle.stays.specs.Demand.{Act}
 use Rattle.stays.proofs.Same.{count-append}
 use Rattle.stays.proofs.Requester.{state-snoc}
 use Rattle.stays.proofs.Weights.{ended-weight, running-weight, weight}
@@ -35,8 +34,8 @@ use Rattle.lamps.specs.Members.{isMember}
 use Rattle.lamps.specs.Notice.{startsStay, isOver, noNotice, unlit, litBy}
 use Rattle.lamps.specs.Served.{start, litOf}
 use Rattle.lamps.specs.Runs.{Input, event, reply, sum, eventsIn, toMember, isFor, sentTo}
-use Rattle.lamps.specs.Promises.{callIn, isOverStay, EachOn, EachOff, counted, wasHandedOver, SameNumbers, AreSameNumbers}
-use Rattle.lamps.proofs.Accepted.{OnOffer, on-offer, sends, Came, refused, done, came}
+use Rattle.lamps.specs.Promises.{callIn, isOverStay, EachOn, EachOff, counted, wasHandedOver, AreSameNumbers}
+use Rattle.lamps.proofs.Accepted.{on-offer, sends, Came, refused, done, came}
 use Rattle.lamps.proofs.Along.{actOf, staysBy, Good, full, good-start, OldStay, Grown, anew, longer, handed-snoc, grown, adds-up}
 
 -- ---- what is counted of stays is a weight of them

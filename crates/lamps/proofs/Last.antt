@@ -12,9 +12,8 @@ use lib.Dec.{eqb}
 use lib.ListN.{length, getD, set, getD-replicate}
 use lib.Seq.{getD-set-same, getD-set-other}
 use borrow.Author.Tests.{eq-eqb, ne-eqb}
-use Rattle.laws.proofs.Bools.{never, not-both}
+use Rattle.laws.proofs.Bools.{never}
 use Rattle.table.specs.declared.State.{State}
-use Rattle.table.specs.declared.State.the-variants.{Free, HandedOver}
 use Rattle.table.specs.declared.Record.{Record}
 use Rattle.table.specs.declared.Table.{Table}
 use Rattle.table.specs.declared.Found.{Found}
@@ -23,9 +22,8 @@ use Rattle.table.specs.Places.{stateNumber, isFree, placeAt, freeRecord, blank,
 use Rattle.events.specs.declared.Event.{Event}
 use Rattle.events.specs.declared.Answer.{Answer}
 use Rattle.events.specs.Turn.{up}
-use Rattle.step.specs.declared.Step.{Step}
 use Rattle.step.specs.Step.{stepOf}
-use Rattle.step.specs.Promises.{offered, Move, starts, goes-on, hands-over, ends, is-left, AtOnePlace}
+use Rattle.step.specs.Promises.{offered, Move, starts, goes-on, hands-over, ends, is-left}
 use Rattle.step.proofs.Aims.{same-index}
 use Rattle.stays.specs.Stays.{Stays, none, keep, run}
 use Rattle.stays.specs.ParkTable.{machine}
@@ -40,11 +38,11 @@ use Rattle.lamps.specs.declared.notice.Asks.the-variants.{NoOne, Each}
 use Rattle.lamps.specs.declared.notice.Lit.{Lit}
 use Rattle.lamps.specs.declared.reply.Reply.{Reply}
 use Rattle.lamps.specs.Members.{isMember, darkLamp, blankLamp, lampAt}
-use Rattle.lamps.specs.Notice.{isOver, newLamp, unlit, litBy}
+use Rattle.lamps.specs.Notice.{isOver, newLamp, litBy}
 use Rattle.lamps.specs.Reply.{findPending, replied, settledBy, refusedReply, settledOf}
-use Rattle.lamps.specs.Served.{litOf, start}
+use Rattle.lamps.specs.Served.{start}
 use Rattle.lamps.specs.Runs.{Input, event, reply, after, final, eventsIn}
-use Rattle.lamps.specs.Promises.{LastStay, noStay, lastStay, isOff, OfLastStay, IsOfLastStay, Agrees, LampsAgree, Replaces}
+use Rattle.lamps.specs.Promises.{LastStay, noStay, lastStay, isOff, IsOfLastStay, LampsAgree, Replaces}
 use Rattle.lamps.proofs.Accepted.{place-number, on-offer, sends, Came, refused, done, came}
 use Rattle.lamps.proofs.Along.{actOf, Good, full, good-after, good-final, good-start}
 

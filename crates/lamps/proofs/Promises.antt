@@ -19,13 +19,12 @@ use Rattle.lamps.specs.declared.members.Lamps.{Lamps}
 use Rattle.lamps.specs.declared.notice.Asks.{Asks}
 use Rattle.lamps.specs.declared.notice.Asks.the-variants.{NoOne, Each}
 use Rattle.lamps.specs.declared.notice.Lit.{Lit}
-use Rattle.lamps.specs.declared.notice.Notice.{Notice}
 use Rattle.lamps.specs.declared.reply.Reply.{Reply}
 use Rattle.lamps.specs.Members.{isMember}
 use Rattle.lamps.specs.Notice.{litBy}
 use Rattle.lamps.specs.Reply.{findPending, settledBy, refusedReply, settledOf}
 use Rattle.lamps.specs.Served.{start, litOf}
-use Rattle.lamps.specs.Runs.{Input, event, reply, after, final, sum, noticeOf, toMember, isRequest, requestTo}
+use Rattle.lamps.specs.Runs.{Input, event, reply, after, final, sum, isRequest, requestTo}
 use Rattle.lamps.specs.Promises.{Unaltered, Numbered}
 use Rattle.lamps.proofs.Accepted.{sends, Came, refused, done, came}
 use Rattle.lamps.proofs.Along.{Good, full, good-after, good-final, good-start}

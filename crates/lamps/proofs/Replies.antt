@@ -1,13 +1,13 @@
 -- Which replies are accepted: 31, 32 and 0 say exactly what the request says of them, and a refusal changes nothing. The test that the code runs is the
 -- four facts (`named-of-test`, `test-of-named`).
 -- Assumes nothing.
-use mathlib.Core.Path.{_≡_, refl, sym, _∙_}
+use mathlib.Core.Path.{_≡_, refl}
 use mathlib.Core.Logic.{inl, inr}
-use mathlib.Core.Bool.{Bool, true, false, cond, _&&_}
-use Prim.Native.Nat.{ℕ, _-_, _<_}
+use mathlib.Core.Bool.{Bool, true, false, _&&_}
+use Prim.Native.Nat.{ℕ, _-_}
 use native.Mathlib.Omega.{arith}
 use lib.Dec.{eqb}
-use lib.ListN.{length, getD}
+use lib.ListN.{getD}
 use borrow.Author.Tests.{eqb-true, eq-eqb}
 use Rattle.laws.proofs.Bools.{never, and-left, and-right, and-both, not-both}
 use Rattle.table.specs.declared.Found.{Found}
@@ -17,11 +17,10 @@ use Rattle.table.proofs.Calls.{same-is, same-self}
 use Rattle.lamps.specs.declared.members.Indication.{Indication}
 use Rattle.lamps.specs.declared.members.Indication.the-variants.{On, Off}
 use Rattle.lamps.specs.declared.members.Lamp.{Lamp}
-use Rattle.lamps.specs.declared.members.Lamps.{Lamps}
 use Rattle.lamps.specs.declared.reply.Reply.{Reply}
 use Rattle.lamps.specs.Members.{sameIndication, awaits, gpIn, isMember, lampAt}
 use Rattle.lamps.specs.Reply.{sameRequest, isPending, findPending, settledBy, refusedReply, settledOf}
-use Rattle.lamps.specs.Promises.{Named, Settles, RepliesRight, AreRepliesRight}
+use Rattle.lamps.specs.Promises.{Named, RepliesRight, AreRepliesRight}
 use Rattle.lamps.proofs.Pending.{pending-hit, pending-miss}
 
 -- ---- the test, and the four facts

@@ -2,7 +2,7 @@
 -- endpoint shall stop timer T4 and shall return to GP-Idle state.", and the same of Off and T5; "Expiry .. shall be treated the same as if a Reject
 -- APDU had been received."
 -- Assumes nothing.
-use mathlib.Core.Bool.{Bool, true, false, cond, _&&_}
+use mathlib.Core.Bool.{Bool, false, cond, _&&_}
 use mathlib.Core.List.{List, [], _∷_}
 use Prim.Native.Nat.{ℕ, _+_, _-_}
 use lib.Dec.{eqb}

@@ -12,7 +12,6 @@ use table::Table;
 use table::search;
 ghost use mathlib.Core.Path.{_≡_};
 ghost use Prim.Native.Nat.{_<_, _≤_};
-ghost use Rattle.lamps.specs.Members.{gpOf, timerIn, lampAt};
 ghost use Rattle.lamps.specs.Reply.{sameRequest, isPending, findPending, refusedReply, replied, settledAt, settledOf};
 
 pub struct Reply {

@@ -1,7 +1,6 @@
 -- The end of the line is not before its start, and inside the text.
 -- Assumes nothing.
 use Prim.Native.Nat.{_-_, _≤_}
-use native.Mathlib.Omega.{arith}
 use lib.ListN.{length}
 use borrow.Author.Needs.{needs}
 use Rattle.lampline.proofs.find_feed.Statement.{statement}

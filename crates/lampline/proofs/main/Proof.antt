@@ -3,7 +3,6 @@
 use mathlib.Core.Path.{sym}
 use Prim.Native.Nat.{ℕ}
 use lib.ListN.{length-replicate}
-use borrow.Author.Needs.{needs}
 use Rattle.lampline.proofs.main.Statement.{statement}
 use Rattle.lampline.proofs.main.Tie as tie
 

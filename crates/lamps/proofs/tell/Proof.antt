@@ -1,12 +1,9 @@
 -- The step is the table's own; the place of an accepted event has an index (`accepted-inside`).
 -- Assumes nothing.
-use mathlib.Core.Path.{_≡_, sym, ap, _∙_}
-use mathlib.Core.Bool.{true, false}
+use mathlib.Core.Path.{_≡_, sym, _∙_}
 use lib.ListN.{length, length-map}
 use borrow.Author.Tests.{eq-eqb, ne-eqb}
 use borrow.Author.Needs.{needs}
-use native.Mathlib.Omega.{arith}
-use Rattle.step.specs.Promises.{Full}
 use Rattle.lamps.proofs.Accepted.{Inside, accepted-inside}
 use Rattle.lamps.proofs.tell.Statement.{statement}
 use Rattle.lamps.proofs.tell.Tie as tie

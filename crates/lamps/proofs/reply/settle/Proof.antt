@@ -2,7 +2,6 @@
 -- Assumes nothing.
 use mathlib.Core.Path.{_≡_, sym, _∙_}
 use mathlib.Core.Bool.{true, false}
-use Prim.Native.Nat.{_<_}
 use lib.ListN.{length}
 use Rattle.laws.proofs.Runs.{length-mapped}
 use borrow.Author.Needs.{needs}
