@@ -5,7 +5,7 @@ use mathlib.Core.Path.{_≡_, refl, sym, ap, _∙_, subst}
 use mathlib.Core.Logic.{_≢_}
 use mathlib.Core.Bool.{Bool, true, false, not, cond}
 use mathlib.Core.List.{List, [], _∷_}
-use Prim.Native.Nat.{ℕ, zero, suc, _+_, _<_}
+use Prim.Native.Nat.{ℕ, zero, suc, _+_, _-_, _<_}
 use native.Mathlib.Decide.{ℕ-discrete}
 use native.Mathlib.Omega.{arith}
 use lib.Dec.{eqb}
@@ -31,18 +31,19 @@ use Rattle.stays.specs.Demand.{Act}
 use Rattle.lamps.specs.declared.Endpoint.{Endpoint}
 use Rattle.lamps.specs.declared.members.Indication.{Indication}
 use Rattle.lamps.specs.declared.members.Indication.the-variants.{On, Off}
+use Rattle.lamps.specs.declared.members.Gp.the-variants.{NotifyOffRequ}
 use Rattle.lamps.specs.declared.members.Lamp.{Lamp}
 use Rattle.lamps.specs.declared.members.Lamps.{Lamps}
 use Rattle.lamps.specs.declared.notice.Asks.{Asks}
 use Rattle.lamps.specs.declared.notice.Asks.the-variants.{NoOne, Each}
 use Rattle.lamps.specs.declared.notice.Lit.{Lit}
 use Rattle.lamps.specs.declared.reply.Reply.{Reply}
-use Rattle.lamps.specs.Members.{isMember, darkLamp, blankLamp, lampAt}
+use Rattle.lamps.specs.Members.{gpIn, isMember, darkLamp, blankLamp, lampAt}
 use Rattle.lamps.specs.Notice.{isOver, newLamp, litBy}
 use Rattle.lamps.specs.Reply.{findPending, replied, settledBy, refusedReply, settledOf}
 use Rattle.lamps.specs.Served.{start}
 use Rattle.lamps.specs.Runs.{Input, event, reply, after, final, eventsIn}
-use Rattle.lamps.specs.Promises.{LastStay, noStay, lastStay, isOff, IsOfLastStay, LampsAgree, Replaces}
+use Rattle.lamps.specs.Promises.{LastStay, noStay, lastStay, isOff, IsOfLastStay, PendingOff, LampsAgree, Replaces}
 use Rattle.lamps.proofs.Accepted.{place-number, on-offer, sends, Came, refused, done, came}
 use Rattle.lamps.proofs.Along.{actOf, Good, full, good-after, good-final, good-start}
 
@@ -185,6 +186,18 @@ all-fit xs i inside = run-fits i inside start none good-start noStay (start-fits
 
 pub of-last-stay : IsOfLastStay
 of-last-stay xs i inside = let f = all-fit xs i inside in record { indication = f .over; call = f .call }
+
+-- only a request for Off is awaited in GP-NotifyOffRequ
+awaits-off : (n : Indication) (b : Bool) → gpIn n b ≡ NotifyOffRequ → isOff n ≡ true
+awaits-off Off b h = refl
+awaits-off On true h = absurd (let z : _≡_ {A = ℕ} 0 1 = cc in omega arith)
+awaits-off On false h = absurd (let z : _≡_ {A = ℕ} 0 1 = cc in omega arith)
+
+pub pending-off : PendingOff
+pending-off xs i m inside h =
+    let x = lampAt (final start xs .lamps) i in
+    let f = all-fit xs i inside in
+    (sym (f .over) ∙ awaits-off (x .indication) (getD (x .pending) (m - 1) false) h, f .call)
 
 pub lamps-agree : LampsAgree
 lamps-agree xs i inside = let f = all-fit xs i inside in record { offered-on = f .offered-on; held-call = f .held-call }

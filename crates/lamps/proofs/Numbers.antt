@@ -1,4 +1,4 @@
--- Numbers from 1 to a bound, the place of an accepted event, and an array that is filled from another.
+-- Numbers from 1 to a bound, and an array that is filled from another, element by element.
 -- Assumes nothing.
 use mathlib.Core.Path.{_≡_, sym, ap, ap₂, _∙_}
 use mathlib.Core.Bool.{true}

@@ -31,7 +31,7 @@ use Rattle.lamps.proofs.Along.{Good, full, good-after, good-final, good
 pub use Rattle.lamps.proofs.Clause.{follows-clause}
 pub use Rattle.lamps.proofs.Clocks.{timers-run}
 pub use Rattle.lamps.proofs.Counts.{each-on, each-off, same-numbers}
-pub use Rattle.lamps.proofs.Last.{of-last-stay, lamps-agree, replaces}
+pub use Rattle.lamps.proofs.Last.{of-last-stay, pending-off, lamps-agree, replaces}
 pub use Rattle.lamps.proofs.Replies.{replies-right}
 
 pub unaltered : Unaltered

@@ -22,6 +22,7 @@ use Rattle.stays.specs.Demand.{Act, staysOf, stateAfter}
 use Rattle.lamps.specs.declared.Endpoint.{Endpoint}
 use Rattle.lamps.specs.declared.members.Indication.{Indication}
 use Rattle.lamps.specs.declared.members.Indication.the-variants.{On, Off}
+use Rattle.lamps.specs.declared.members.Gp.the-variants.{NotifyOffRequ}
 use Rattle.lamps.specs.declared.members.Lamp.{Lamp}
 use Rattle.lamps.specs.declared.members.Lamps.{Lamps}
 use Rattle.lamps.specs.declared.notice.Asks.the-variants.{Each}
@@ -120,8 +121,7 @@ lastAt xs i = lastStay i noStay (run machine emptyTable (eventsIn xs))
 abbrev pub isOff : Indication → Bool
 isOff n = sameIndication n Off
 
--- the request last sent at a place, pending or not, is of the stay that was last there: Off from when that stay is over, and with its call. So a
--- pending Off has the call of the stay that ended, and none is pending once the place is used again
+-- the request last sent at a place, pending or not, is of the stay that was last there: Off from when that stay is over, and with its call
 pub record OfLastStay (xs : List Input) (i : ℕ) : Type 0 where
   pub indication : isOff (lampAt (final start xs .lamps) i .indication) ≡ lastAt xs i .over
   pub call : lampAt (final start xs .lamps) i .call ≡ lastAt xs i .call
@@ -129,6 +129,12 @@ pub record OfLastStay (xs : List Input) (i : ℕ) : Type 0 where
 -- `of-last-stay`
 abbrev pub IsOfLastStay : Type 0
 IsOfLastStay = (xs : List Input) (i : ℕ) → i < 96 → OfLastStay xs i
+
+-- `pending-off`: so a pending Off has the call of the stay that ended or was handed over there, and none is pending once the place is used again, since
+-- the stay that is last there then is not over
+abbrev pub PendingOff : Type 0
+PendingOff = (xs : List Input) (i m : ℕ) → i < 96 → gpOf (lampAt (final start xs .lamps) i) m ≡ NotifyOffRequ
+    → (lastAt xs i .over ≡ true) × (lampAt (final start xs .lamps) i .call ≡ lastAt xs i .call)
 
 -- at any moment, beside the table itself
 pub record Agrees (s : Endpoint) (i : ℕ) : Type 0 where

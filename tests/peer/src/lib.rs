@@ -1,5 +1,5 @@
 //! The park and pickup table of document 01, with requests of document 02, written a second
-//! time, from the documents alone.
+//! time, from the documents alone; what Q-5 leaves open is as docs/DECISIONS.md has it.
 //!
 //! It serves as the other side of a comparison: the tests hold every octet of the product against it, and a
 //! benchmark may hold the product's speed against it. Remarks name the heading of document 01 in quotes.
