@@ -96,15 +96,14 @@ pub record OnOffer (s : State) : Type 0 where
   pub held : isFree s ≡ false
   pub due : hadOff s ≡ false
   pub going : isOver (stateNumber s) ≡ false
-  pub not-0 : eqb (stateNumber s) 0 ≡ false
   pub not-5 : eqb (stateNumber s) 5 ≡ false
 
 pub on-offer : (s : State) → offered s ≡ true → OnOffer s
 on-offer Free h = never h
-on-offer ParkWaiting h = record { held = refl; due = refl; going = refl; not-0 = refl; not-5 = refl }
-on-offer LineWaiting h = record { held = refl; due = refl; going = refl; not-0 = refl; not-5 = refl }
-on-offer Requested h = record { held = refl; due = refl; going = refl; not-0 = refl; not-5 = refl }
-on-offer RemoteRequested h = record { held = refl; due = refl; going = refl; not-0 = refl; not-5 = refl }
+on-offer ParkWaiting h = record { held = refl; due = refl; going = refl; not-5 = refl }
+on-offer LineWaiting h = record { held = refl; due = refl; going = refl; not-5 = refl }
+on-offer Requested h = record { held = refl; due = refl; going = refl; not-5 = refl }
+on-offer RemoteRequested h = record { held = refl; due = refl; going = refl; not-5 = refl }
 on-offer HandedOver h = never h
 
 abbrev pub sends : {before after : State} → Move before after → Asks
