@@ -3,6 +3,7 @@
 PREFIX ?= /usr/local
 LIBRARY = target/staticlib/libentry.a
 PROGRAM = target/bin/parkline
+LAMPLINE = target/bin/lampline
 
 # the gate: C tests, proofs from nothing, must-fail edits, programs
 test:
@@ -32,8 +33,8 @@ install: $(LIBRARY) $(PROGRAM)
 	install -m 644 man/park_step.3 $(INSTALLED)/share/man/man3/park_step.3
 	install -m 644 man/park_bad_field.3 $(INSTALLED)/share/man/man3/park_bad_field.3
 
-# the library and the program beside the peer's, as one table in Markdown; cargo bench builds in release mode
-bench: $(LIBRARY) $(PROGRAM)
+# the library and the programs beside the peer's, as one table in Markdown; cargo bench builds in release mode
+bench: $(LIBRARY) $(PROGRAM) $(LAMPLINE)
 	@cd tests/peer && cargo bench --offline --bench park
 
 $(LIBRARY):
@@ -41,3 +42,6 @@ $(LIBRARY):
 
 $(PROGRAM):
 	rt check parkline
+
+$(LAMPLINE):
+	rt check lampline

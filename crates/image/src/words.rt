@@ -42,13 +42,14 @@ pub(crate) fn word(image: &[u8], at: usize) -> u64
     wide_quad(quad(image, at)) + wide_quad(quad(image, at + 4)) * 4294967296
 }
 
-// Is the call at one index the call at another?
+// Is the call at one index the call at another? The last eight octets come first: calls of a site are made by a few machines and share their leading
+// octets (request Q-6).
 pub(crate) fn same_call(x: &[u8], a: usize, y: &[u8], b: usize) -> bool
     requires { ⌜ (a + 16 ≤ length (now x)) × (b + 16 ≤ length (now y)) ⌝ }
     ensures { λ r. ⌜ r ≡ sameCall (take 16 (drop a (now (x .entry)))) (take 16 (drop b (now (y .entry)))) ⌝ }
 {
-    if word(x, a) != word(y, b) {
+    if word(x, a + 8) != word(y, b + 8) {
         return false;
     }
-    word(x, a + 8) == word(y, b + 8)
+    word(x, a) == word(y, b)
 }

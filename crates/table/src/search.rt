@@ -8,16 +8,17 @@ use crate::Table;
 ghost use mathlib.Core.Path.{_≡_};
 ghost use Rattle.table.specs.Search.{sameCall, holds, isAt, findCall, lowestIn};
 
-// Two calls octet by octet, as long as they agree.
+// Two calls octet by octet, as long as they agree. The last octet comes first: calls of a site are made by a few machines and share their leading
+// octets (request Q-6).
 pub fn same_call(a: [u8; 16], b: [u8; 16]) -> bool
     ensures { λ r. ⌜ r ≡ sameCall a b ⌝ }
 {
-    let mut i: usize = 0;
-    while i < 16 {
+    let mut i: usize = 16;
+    while 0 < i {
+        i -= 1;
         if a[i] != b[i] {
             return false;
         }
-        i += 1;
     }
     true
 }

@@ -1,10 +1,10 @@
 //! The speed of the product beside the peer's, as one table in Markdown: `park_step` within this process, and the
-//! programs on long streams.
+//! programs on long streams. `park_step` and `parkline` keep the table as its image, `lampline` has it by value.
 //!
 //! A time is the least of many short rounds in which both sides take turns, so that whatever else the machine does
 //! falls on both and mostly drops out. The instructions are callgrind's counts, which repeat.
 
-// The query on a line and the lamps are compared, but not measured.
+// The query on a line is compared, but not measured.
 #[allow(dead_code)]
 #[path = "../tests/compare/product.rs"]
 mod product;
@@ -31,9 +31,13 @@ const ROUNDS: usize = 400;
 const SHORTEST_ROUND: Duration = Duration::from_millis(1);
 const PROGRAM_RUNS: usize = 15;
 const STREAM_LINES: usize = 200_000;
-const COUNTED_LINES: usize = STREAM_LINES / 10;
-/// Valgrind runs the smaller count and its double; the difference leaves only the cycles in between.
-const COUNTED_CYCLES: usize = 20;
+/// `lampline` reads a mebioctet at most.
+const LAMP_LINES: usize = 15_000;
+/// Valgrind runs the first lines of a stream, one in so many of the whole.
+const COUNTED_SHARE: usize = 10;
+/// Valgrind runs so many events and the double; the difference leaves only those in between. The start of a process
+/// takes some hundred instructions more or less from one run to the next.
+const COUNTED_EVENTS: usize = 300;
 
 fn main() {
     let arguments: Vec<String> = std::env::args().skip(1).collect();
@@ -57,11 +61,10 @@ fn print_table() {
         println!("| `park_step`, {} | {times} | {counts} |", row.name);
     }
     for fill in [24, 90] {
-        let programs = Programs::new(fill);
-        programs.check();
-        let (times, counts) = (cells(Some(programs.times()), 1, " ms"), cells(programs.instructions(), 1, " M"));
-        let name = format!("about {fill} calls, {STREAM_LINES} lines (instructions: {COUNTED_LINES})");
-        println!("| `parkline`, {name} | {times} | {counts} |");
+        Programs::on_the_table(fill).print_row();
+    }
+    for sort in SORTS {
+        Programs::with_lamps(sort).print_row();
     }
 }
 
@@ -95,14 +98,32 @@ struct Row {
     put_back: Range<usize>,
 }
 
+/// The call of the record with this index.
+type CallAt = fn(usize) -> Call;
+
+/// What tells the calls of a table apart decides how long it takes to compare two of them.
+const SORTS: [(&str, CallAt); 3] = [
+    ("random calls", random_call),
+    ("calls that share their first 15 octets", call_by_last_octet),
+    ("calls that share their last 15 octets", call_by_first_octet),
+];
+
 fn step_rows() -> Vec<Row> {
     let row = |name: &str, number, (image, lines)| Row { name: name.into(), number, image, lines, put_back: 0..0 };
     let mut rows = vec![row("no calls", "0", stays(0, random_call))];
     for calls in [24, 48, 96] {
-        rows.push(row(&format!("{calls} random calls"), "0", stays(calls, random_call)));
-        rows.push(row(&format!("{calls} calls, only their last octets differ"), "0", stays(calls, alike_call)));
+        for (sort, call_at) in SORTS {
+            rows.push(row(&format!("{calls} {sort}"), "0", stays(calls, call_at)));
+        }
     }
-    rows.push(row("96 calls chosen against our hash", "0", stays(96, colliding_call)));
+    for (sort, call_at) in SORTS {
+        let not_held = Event { kind: 8, call: call_at(Table::PLACES), ..Event::default() };
+        let (image, lines) = (stays(96, call_at).0, vec![line_of(&not_held)]);
+        rows.push(row(&format!("96 {sort}, another call named (5)"), "5", (image, lines)));
+    }
+    for (sort, call_at) in COLLIDING {
+        rows.push(row(&format!("96 calls chosen against our hash{sort}"), "0", stays(96, call_at)));
+    }
     let (image, mut lines) = stays(96, random_call);
     lines.truncate(1);
     let mut equal_calls = image.clone();
@@ -156,7 +177,7 @@ fn entering(index: usize, call: Call) -> Event {
 }
 
 /// The image after calls have come to the records with these indices, in this order.
-fn image_of(order: impl Iterator<Item = usize>, call_at: fn(usize) -> Call) -> Vec<u8> {
+fn image_of(order: impl Iterator<Item = usize>, call_at: CallAt) -> Vec<u8> {
     let mut table = Table::empty();
     for index in order {
         let answer = step(&mut table, &entering(index, call_at(index)));
@@ -167,28 +188,45 @@ fn image_of(order: impl Iterator<Item = usize>, call_at: fn(usize) -> Call) -> V
     image
 }
 
-/// Differs from the others in its first octets already, as identifiers of real calls do.
+/// Differs from the others in nearly every octet.
 fn random_call(index: usize) -> Call {
     let mut rng = Rng::new(index as u64);
     Call(u128::from(rng.word()) << 64 | u128::from(rng.word()))
 }
 
-/// An odd factor keeps these apart and out of order.
-fn alike_call(index: usize) -> Call {
-    Call(random_call(0).0 & !255 | (167 * index as u128) & 255)
+/// As where a few machines give out the identifiers: the first 15 octets are the same.
+fn call_by_last_octet(index: usize) -> Call {
+    Call(random_call(0).0 & !255 | u128::from(own_octet(index)))
 }
 
-/// The library looks for equal calls among those whose halves have the same sum, modulo a prime. Here all have.
-fn colliding_call(index: usize) -> Call {
-    let part = 167 * index as u64;
-    let halves = [part.to_le_bytes(), (!part).to_le_bytes()];
+/// The last 15 octets are the same.
+fn call_by_first_octet(index: usize) -> Call {
+    Call(random_call(0).0 & u128::MAX >> 8 | u128::from(own_octet(index)) << 120)
+}
+
+/// An odd factor keeps these apart and out of order.
+fn own_octet(index: usize) -> u8 {
+    (167 * index) as u8
+}
+
+/// The library looks for equal calls among those whose halves have the same sum, modulo this prime. Here all have.
+const BUCKETS: u64 = 509;
+const COLLIDING: [(&str, CallAt); 3] = [
+    ("", |index| call_of_halves(167 * index as u64, !(167 * index as u64))),
+    (" that share their first 8 octets", |index| call_of_halves(1, BUCKETS * index as u64)),
+    (" that share their last 8 octets", |index| call_of_halves(BUCKETS * index as u64, 1)),
+];
+
+/// The low octet of a half comes first, as where the library adds them.
+fn call_of_halves(first: u64, last: u64) -> Call {
+    let halves = [first.to_le_bytes(), last.to_le_bytes()];
     Call(u128::from_be_bytes(halves.concat().try_into().expect("16 octets")))
 }
 
 /// The image and the lines: calls spread over the whole table, of which the first, the middle and the last are
 /// picked up, turned down, picked up again, released and entered anew. Without calls, these three come and go one
 /// by one.
-fn stays(calls: usize, call_at: fn(usize) -> Call) -> (Vec<u8>, Vec<Vec<u8>>) {
+fn stays(calls: usize, call_at: CallAt) -> (Vec<u8>, Vec<Vec<u8>>) {
     let taken: Vec<usize> = (0..calls).map(|nth| nth * Table::PLACES / calls).collect();
     let moved = [0, 1, 2].map(|share| match calls {
         0 => share * (Table::PLACES - 1) / 2,
@@ -274,39 +312,74 @@ impl Row {
             let numbers = [index, side, cycles].map(|number| number.to_string());
             count_instructions(&own, &["cycles", &numbers[0], &numbers[1], &numbers[2]], Stdio::null())
         };
+        let cycles = COUNTED_EVENTS / self.lines.len();
         let per_event = |side| {
-            let counted = count(side, 2 * COUNTED_CYCLES)? - count(side, COUNTED_CYCLES)?;
-            Some(counted / (COUNTED_CYCLES * self.lines.len()) as f64)
+            let counted = count(side, 2 * cycles)? - count(side, cycles)?;
+            Some(counted / (cycles * self.lines.len()) as f64)
         };
         Some([per_event(0)?, per_event(1)?])
     }
 }
 
-/// Both programs, and the files of lines that they are given.
+/// A program of ours with the peer's for it, and the files of lines that both are given.
 struct Programs {
+    name: String,
     paths: [PathBuf; 2],
+    lines: usize,
     stream: PathBuf,
     /// The first lines of the stream, for valgrind.
     short_stream: PathBuf,
 }
 
 impl Programs {
-    fn new(fill: usize) -> Programs {
+    /// Lines which follow the table that they act on, filled to about the wanted count; the fill is the seed too.
+    fn on_the_table(fill: usize) -> Programs {
+        let mut follower = Follower::new(fill as u64, fill);
+        let mut table = Table::empty();
+        let lines = (0..STREAM_LINES).map(|_| {
+            let event = follower.event(&table);
+            step(&mut table, &event);
+            line_of(&event)
+        });
+        let paths = [product::parkline(), env!("CARGO_BIN_EXE_peerline").into()];
+        Programs::new(&format!("`parkline`, about {fill} calls"), paths, lines.collect())
+    }
+
+    /// All places are taken, and then the cycle of `park_step` is run again and again.
+    fn with_lamps((sort, call_at): (&str, CallAt)) -> Programs {
+        let entered = (0..Table::PLACES).map(|index| line_of(&entering(index, call_at(index))));
+        let (_, cycle) = stays(Table::PLACES, call_at);
+        let lines = entered.chain(cycle.into_iter().cycle()).take(LAMP_LINES);
+        let paths = [product::lampline(), env!("CARGO_BIN_EXE_lamppeer").into()];
+        Programs::new(&format!("`lampline`, {} {sort}", Table::PLACES), paths, lines.collect())
+    }
+
+    fn new(name: &str, paths: [PathBuf; 2], lines: Vec<Vec<u8>>) -> Programs {
+        let counted = lines.len() / COUNTED_SHARE;
         Programs {
-            paths: [product::parkline(), env!("CARGO_BIN_EXE_peerline").into()],
-            stream: write_stream("stream", fill, STREAM_LINES),
-            short_stream: write_stream("short_stream", fill, COUNTED_LINES),
+            name: format!("{name}, {} lines (instructions: {counted})", lines.len()),
+            paths,
+            lines: lines.len(),
+            stream: write_stream("stream", &lines),
+            short_stream: write_stream("short_stream", &lines[..counted]),
         }
     }
 
-    /// Both print the same, one line for each of the stream.
+    fn print_row(&self) {
+        self.check();
+        let (times, counts) = (cells(Some(self.times()), 1, " ms"), cells(self.instructions(), 1, " M"));
+        println!("| {} | {times} | {counts} |", self.name);
+    }
+
+    /// Both print the same, one answer for each line of the stream. What else there is begins with no digit.
     fn check(&self) {
         let [ours, peer] = [0, 1].map(|side| {
             let output = Command::new(&self.paths[side]).stdin(open(&self.stream)).output();
             output.unwrap_or_else(|error| panic!("{}: {error}", self.paths[side].display())).stdout
         });
         assert!(ours == peer, "the programs differ");
-        assert_eq!(ours.iter().filter(|&&octet| octet == b'\n').count(), STREAM_LINES);
+        let printed = ours.split(|&octet| octet == b'\n');
+        assert_eq!(printed.filter(|line| line.first().is_some_and(u8::is_ascii_digit)).count(), self.lines);
     }
 
     /// Milliseconds for the whole stream, the start of the process included.
@@ -329,18 +402,9 @@ impl Programs {
     }
 }
 
-/// Lines which follow the table that they act on, filled to about the wanted count; the fill is the seed too. The
-/// file stays, in cargo's folder for such files, until the next stream takes its place.
-fn write_stream(name: &str, fill: usize, lines: usize) -> PathBuf {
-    let mut follower = Follower::new(fill as u64, fill);
-    let mut table = Table::empty();
-    let mut text = Vec::new();
-    for _ in 0..lines {
-        let event = follower.event(&table);
-        step(&mut table, &event);
-        text.extend(line_of(&event));
-        text.push(b'\n');
-    }
+/// The file stays, in cargo's folder for such files, until the next stream takes its place.
+fn write_stream(name: &str, lines: &[Vec<u8>]) -> PathBuf {
+    let text: Vec<u8> = lines.iter().flat_map(|line| [line, b"\n".as_slice()].concat()).collect();
     let path = Path::new(env!("CARGO_TARGET_TMPDIR")).join(name);
     fs::write(&path, text).expect("the stream can be written");
     path

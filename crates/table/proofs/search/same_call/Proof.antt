@@ -1,10 +1,14 @@
--- The two calls are compared octet by octet: what is left to compare decides.
+-- The two calls are compared octet by octet from the last on: those that were passed agree, and one that differs decides.
 -- Assumes nothing.
-use mathlib.Core.Path.{_≡_, refl, sym, _∙_}
-use Prim.Native.Nat.{_≤_, _-_}
-use lib.ListN.{drop}
-use borrow.Author.Tests.{eq-eqb, ne-eqb}
+use mathlib.Core.Path.{_≡_, sym, ap, _∙_}
+use mathlib.Core.Bool.{true}
+use mathlib.Core.List.{List}
+use Prim.Native.Nat.{ℕ, _+_, _-_, _≤_}
+use lib.ListN.{drop, getD}
+use mathlib.Mathlib.Data.Bool.Basic.{eq-false-of-not-eq-true}
+use borrow.Author.Tests.{eq-eqb}
 use Rattle.table.specs.Search.{sameCall}
+use Rattle.table.proofs.Calls.{same-is}
 use Rattle.table.proofs.Laws.{same-at, same-end}
 use borrow.Author.Needs.{needs}
 use native.Mathlib.Omega.{arith}
@@ -12,13 +16,16 @@ use Rattle.table.proofs.search.same_call.Statement.{statement}
 use Rattle.table.proofs.search.same_call.Tie as tie
 
 abbrev Inv-loop : tie.InvT-loop
-Inv-loop a b i₀ i = (i ≤ 16) × (sameCall a b ≡ sameCall (drop i a) (drop i b))
+Inv-loop a b i₀ i = (i ≤ 16) × (sameCall (drop i a) (drop i b) ≡ true)
 
 abbrev μ-loop : tie.MeasureT-loop
-μ-loop a b i₀ i = 16 - i
+μ-loop a b i₀ i = i
 
 loop-holds : tie.Need-loop-holds Inv-loop μ-loop
-loop-holds c = (omega arith, refl)
+loop-holds c = (omega arith, same-end (c .args .t1) (c .args .t2) 16 (search needs) (search needs))
+
+sub-i : tie.Need-sub-i Inv-loop μ-loop
+sub-i c = omega arith
 
 array-read-if1 : tie.Need-array-read-if1 Inv-loop μ-loop
 array-read-if1 c = omega arith
@@ -29,12 +36,8 @@ array-read-if1-2 c = omega arith
 returns : tie.Need-returns Inv-loop μ-loop
 returns c =
     let k = c .before .before in
-    let step = same-at (k .before .args .t1) (k .before .args .t2) (k .loop .i) (search needs) (search needs) in
-    let far = ne-eqb _ _ (c .if1 .taken) in
-    sym (k .loop .inv .1 ∙ step ∙ rw far)
-
-add-i : tie.Need-add-i Inv-loop μ-loop
-add-i c = omega arith
+    let a = k .before .args in
+    sym (eq-false-of-not-eq-true (λ same. c .if1 .taken (ap (λ (l : List ℕ). getD l (k .loop .i - 1) 0) (same-is (a .t1) (a .t2) same))))
 
 loop-less : tie.Need-loop-less Inv-loop μ-loop
 loop-less c = omega arith
@@ -42,14 +45,16 @@ loop-less c = omega arith
 loop-again : tie.Need-loop-again Inv-loop μ-loop
 loop-again c =
     let k = c .before .before in
-    let step = same-at (k .before .args .t1) (k .before .args .t2) (k .loop .i) (search needs) (search needs) in
+    let a = k .before .args in
+    let last : k .loop .i - 1 + 1 ≡ k .loop .i = omega arith in
     let near = eq-eqb _ _ (c .if1 .left) in
-    (omega arith, k .loop .inv .1 ∙ step ∙ rw near)
+    (omega arith, same-at (a .t1) (a .t2) (k .loop .i - 1) (search needs) (search needs) ∙ rw (near, last, k .loop .inv .1))
 
 returns-2 : tie.Need-returns-2 Inv-loop μ-loop
 returns-2 c =
     let k = c .before in
-    sym (k .loop .inv .1 ∙ same-end (k .before .args .t1) (k .before .args .t2) (k .loop .i) (search needs) (search needs))
+    let all : k .loop .i ≡ 0 = omega arith in
+    sym (rw all at (k .loop .inv .1))
 
 pub same-call-spec : {M : Type 1} → statement M
 same-call-spec =
@@ -58,10 +63,10 @@ same-call-spec =
     Inv-loop
     μ-loop
     loop-holds
+    sub-i
     array-read-if1
     array-read-if1-2
     returns
-    add-i
     loop-less
     loop-again
     returns-2)
