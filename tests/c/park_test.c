@@ -1,7 +1,7 @@
 /*
- * park_step and park_bad_field from C: the session of the scope paper, what a picker is told, why a call is taken, who is served first, every
- * refusal that only the entry can give, the field to blame, and what is left in each buffer. The expected lines are the paper's own, or follow
- * from a sentence of it or of a change request that stands beside them. Each buffer is framed by guard octets.
+ * park_step and park_bad_field from C: the session of the scope paper, what a picker is told, why a call is taken, who is served first, which
+ * calls are two, every refusal that only the entry can give, the field to blame, and what is left in each buffer. The expected lines are the paper's
+ * own, or follow from a sentence of it or of a change request that stands beside them. Each buffer is framed by guard octets.
  */
 #include "park.h"
 
@@ -95,6 +95,8 @@ static void text(const char *s) { set(&line, s, strlen(s)); }
 #define PARKED_17 "0\t" ONE "\t17\t1\t1\t0\t0\t0\t1\t0" NO_SECOND
 /* "The answer then has zeros everywhere but its number" */
 #define ONLY(number) number "\t" ZEROS "\t0\t0\t0\t0\t0\t0\t0\t0" NO_SECOND
+/* "a park refused by 3 or 4 has message 2, error 1" */
+#define NOT_PARKED(number) number "\t" ZEROS "\t0\t0\t2\t0\t0\t1\t0\t0" NO_SECOND
 /* "message 6, the event's connection and its error", which is 2, callAlreadyPickedUp */
 #define TAKEN_901 "\t" ZEROS "\t0\t0\t6\t901\t0\t2\t0\t0" NO_SECOND
 
@@ -448,8 +450,59 @@ static void one_place(void)
         expect(record(place)[21] == place, "the last of its side");
     }
     text("1\t" ZEROS "\t5\t0\t0\t0\t0");
-    /* "a park refused by 3 or 4 has message 2, error 1" */
-    answers("4\t" ZEROS "\t0\t0\t2\t0\t0\t1\t0\t0" NO_SECOND, 0);
+    answers(NOT_PARKED("4"), 0);
+}
+
+/* The call is the only one of its side. */
+static void hold(int place, uint8_t state, const uint8_t *call)
+{
+    record(place)[0] = state;
+    memcpy(record(place) + 1, call, 16);
+    record(place)[21] = 1;
+}
+
+/* An event of this kind that names the call and nothing else. */
+static void name(int kind, const uint8_t *call)
+{
+    char event[80];
+    int i, n = sprintf(event, "%d\t", kind);
+    for (i = 0; i < 16; i++) n += sprintf(event + n, "%02x", call[i]);
+    strcpy(event + n, "\t0\t0\t0\t0\t0");
+    text(event);
+}
+
+/* 5 "call not in the table", 3 "call already in the table", and "no two occupied places hold the same call" */
+static void two_calls(const uint8_t *one, const uint8_t *other)
+{
+    clear(&image, 0, PARK_IMAGE_OCTETS);
+    hold(64, 1, one);
+    name(8, other), answers(ONLY("5"), 0);
+    name(1, one), answers(NOT_PARKED("3"), 0);
+    hold(96, 5, other);
+    name(1, other), answers(NOT_PARKED("3"), 0);
+    hold(96, 5, one);
+    refused_image();
+}
+
+/*
+ * Q-6: "Nothing that a caller can see changes." From whichever end they are compared, two calls that differ in a single bit are two, and so are
+ * two that differ in one half by 509, low octet first. The test of the image compares such two whole (docs/DECISIONS.md, D-20).
+ */
+static void every_octet_counts(void)
+{
+    uint8_t one[16], other[16];
+    int bit, half;
+    for (bit = 0; bit < 128; bit++) {
+        memset(one, 0x3C, 16), memset(other, 0x3C, 16);
+        other[bit / 8] ^= (uint8_t)(1 << bit % 8);
+        two_calls(one, other), two_calls(other, one);
+    }
+    for (half = 0; half < 16; half += 8) {
+        memset(one, 0x3C, 16), memset(other, 0x3C, 16);
+        one[half] = 0, one[half + 1] = 0;
+        other[half] = 509 % 256, other[half + 1] = 509 / 256;
+        two_calls(one, other), two_calls(other, one);
+    }
 }
 
 int main(void)
@@ -464,6 +517,7 @@ int main(void)
     bad_ranks();
     bad_lines();
     one_place();
+    every_octet_counts();
     printf("park_test: %lu checks passed\n", checks);
     return 0;
 }

@@ -42,8 +42,7 @@ pub(crate) fn word(image: &[u8], at: usize) -> u64
     wide_quad(quad(image, at)) + wide_quad(quad(image, at + 4)) * 4294967296
 }
 
-// Is the call at one index the call at another? The last eight octets come first: calls of a site are made by a few machines and share their leading
-// octets (request Q-6).
+// Is the call at one index the call at another? From the far end, as in `table::search`: the last eight octets, and then the first eight.
 pub(crate) fn same_call(x: &[u8], a: usize, y: &[u8], b: usize) -> bool
     requires { ⌜ (a + 16 ≤ length (now x)) × (b + 16 ≤ length (now y)) ⌝ }
     ensures { λ r. ⌜ r ≡ sameCall (take 16 (drop a (now (x .entry)))) (take 16 (drop b (now (y .entry)))) ⌝ }

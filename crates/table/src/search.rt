@@ -8,8 +8,8 @@ use crate::Table;
 ghost use mathlib.Core.Path.{_≡_};
 ghost use Rattle.table.specs.Search.{sameCall, holds, isAt, findCall, lowestIn};
 
-// Two calls octet by octet, as long as they agree. The last octet comes first: calls of a site are made by a few machines and share their leading
-// octets (request Q-6).
+// Two calls octet by octet, as long as they agree. The last octet comes first: calls of a site come from a few machines and share their leading octets
+// (request Q-6).
 pub fn same_call(a: [u8; 16], b: [u8; 16]) -> bool
     ensures { λ r. ⌜ r ≡ sameCall a b ⌝ }
 {
