@@ -16,12 +16,14 @@ use borrow.Author.Needs.{needs}
 use Rattle.image.proofs.words.same_call.Statement.{statement}
 use Rattle.image.proofs.words.same_call.Tie as tie
 
+-- the two words of a call
 abbrev front : List ℕ → ℕ
 front c = numberOf (take 8 c)
 
 abbrev back : List ℕ → ℕ
 back c = numberOf (drop 8 c)
 
+-- what the code asks, of two calls
 by-words : (c d : List ℕ) → length c ≡ 16 → length d ≡ 16 → Octets c → Octets d → (eqb (back c) (back d) && eqb (front c) (front d)) ≡ sameCall c d
 by-words c d lc ld oc od = by (eqb (front c) (front d)) refl
   where
@@ -32,6 +34,7 @@ by-words c d lc ld oc od = by (eqb (front c) (front d)) refl
 abbrev S : tie.After-shared-slice-known2 → tie.Start
 S c = c .before .before
 
+-- and of the octets where they stand
 decides : (c : tie.After-shared-slice-known2)
     → (eqb (runAt 8 (S c .args .x .now) (S c .args .a + 8)) (runAt 8 (S c .args .y .now) (S c .args .b + 8))
     && eqb (runAt 8 (S c .args .x .now) (S c .args .a)) (runAt 8 (S c .args .y .now) (S c .args .b)))
