@@ -4,6 +4,7 @@
 use mathlib.Core.Path.{_≡_, refl, sym, ap, ap₂, _∙_}
 use mathlib.Core.Bool.{_&&_}
 use mathlib.Core.List.{List, [], _∷_, _++_, append-assoc}
+use mathlib.Core.Logic.{⊎-elim}
 use Prim.Native.Nat.{ℕ, zero, suc, _+_, _/_, _%_, _<_}
 use native.Mathlib.Nat.{not-suc-le-zero, le-of-suc-le-suc}
 use native.Mathlib.Numerals.{add-one}
@@ -12,9 +13,10 @@ use lib.Dec.{ltb}
 use lib.ListN.{length, take, getD, set, length-append}
 use lib.Seq.{sets}
 use Rattle.table.specs.declared.Record.{Record}
-use Rattle.table.specs.Places.{stateNumber}
+use Rattle.table.specs.Places.{stateNumber, blank}
 use Rattle.image.specs.Image.{recordFrom, recordsFrom, ranksFrom, statesFit, octetsOf, octetsOfAll, pairOf}
 use Rattle.laws.proofs.Runs.{sets-append}
+use Rattle.laws.proofs.Bools.{equal-or}
 
 -- one state octet more
 pub states-step : (s : List ℕ) (i n m : ℕ) → n ≡ suc m → statesFit s i n ≡ (ltb (getD s i 0) 6 && statesFit s (i + 22) m)
@@ -77,3 +79,14 @@ record-stores l d at x r n ex h =
 pub length-octets : (r : Record) → length (r .call) ≡ 16 → length (octetsOf r) ≡ 21
 unfolding octetsOf
 length-octets r h = simp length-append (omega arith)
+
+-- ---- what the types say of a table that is written, found on the way
+
+-- a record that has 21 octets has a call of 16
+pub call-long : (r : Record) → length (octetsOf r) ≡ 21 → length (r .call) ≡ 16
+unfolding octetsOf
+call-long r h = omega (arith, length-append (stateNumber (r .state) ∷ r .call) (pairOf (r .connection .0) ++ pairOf (r .count .0)))
+
+pub calls-more : (rs : List Record) (i : ℕ) → ((k : ℕ) → k < i → length (getD rs k blank .call) ≡ 16) → length (getD rs i blank .call) ≡ 16
+    → (k : ℕ) → k < i + 1 → length (getD rs k blank .call) ≡ 16
+calls-more rs i before here k h = ⊎-elim (λ same. rw same here) (λ other. before k (omega (arith, other))) (equal-or k i)

@@ -6,5 +6,4 @@ pub mod PlaceLaws
 pub mod Puts
 pub mod Round
 pub mod Sides
-pub mod Unique
 pub mod WordLaws

@@ -18,8 +18,8 @@ use Rattle.table.specs.Places.{isFree, sideAt, recordAt, rankAt}
 use Rattle.table.specs.Ranks.{callsOn, lowered, closedUp, reranked, put}
 use Rattle.table.proofs.RankLaws.{closed-size, lowered-aside}
 use Rattle.table.proofs.Keep.{reranked-wide, put-size, put-wide, each}
-use Rattle.image.specs.Image.{octetsOf, imageOf, recordFrom, rankOctet, closedUpIn, rerankedIn, placePut}
-use Rattle.image.proofs.Round.{Fit, length-image, table-back, record-image, rank-image, record-at, rank-at}
+use Rattle.image.specs.Image.{Fit, octetsOf, imageOf, recordFrom, rankOctet, closedUpIn, rerankedIn, placePut}
+use Rattle.image.proofs.Round.{length-image, table-back, record-image, rank-image, record-at, rank-at}
 
 -- ---- the ranks of a side, one place more
 

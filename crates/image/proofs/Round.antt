@@ -21,15 +21,9 @@ use Rattle.table.specs.Places.{stateNumber, blank, emptyTable, recordAt, rankAt
 use Rattle.table.specs.Sound.{isSound}
 use Rattle.table.proofs.Laws.{state-below}
 use Rattle.image.specs.declared.ReadImage.{ReadImage}
-use Rattle.image.specs.Image.{pairOf, octetsOf, octetsOfAll, imageOf, stateOf, pairAt, recordFrom, recordsFrom, ranksFrom, statesFit, tableFrom, isRead, readImage, rankOctet}
+use Rattle.image.specs.Image.{Fit, pairOf, octetsOf, octetsOfAll, imageOf, stateOf, pairAt, recordFrom, recordsFrom, ranksFrom, statesFit, tableFrom, isRead, readImage, rankOctet}
 use Rattle.laws.proofs.Runs.{sets-over}
 use Rattle.image.proofs.Fills.{length-octets}
-
--- What the types say of a table: 96 places and ranks, 16 octets in each call. No bound of an octet or of a number is needed.
-pub record Fit (t : Table) : Type 0 where
-  pub size : length (t .places) ≡ 96
-  pub wide : length (t .ranks) ≡ 96
-  pub calls : (i : ℕ) → i < 96 → length (recordAt t i .call) ≡ 16
 
 -- ---- what stands after p does not depend on p
 
@@ -199,13 +193,19 @@ module _ (t : Table) (f : Fit t) where
       let k : ranksFrom (imageOf t) 0 96 ≡ t .ranks = ap (ranksFrom (imageOf t) 0) (sym (f .size)) ∙ ranks-back (t .places) (t .ranks) beside calls in
       λ j. record { places = e j; ranks = k j }
 
+  -- THE TEST OF ITS IMAGE IS ITS OWN, whether it is sound or not
+  pub test-of-image : (statesFit (imageOf t) 0 96 && isSound (tableFrom (imageOf t))) ≡ isSound t
+  test-of-image =
+      ap₂ _&&_ (ap (statesFit (imageOf t) 0) (sym (f .size)) ∙ states-back (t .places) (t .ranks) beside calls) (ap isSound table-back)
+
+  pub image-read : isRead (imageOf t) ≡ isSound t
+  image-read = rw (eq-eqb (length (imageOf t)) 2112 length-image) test-of-image
+
   -- READING WHAT WAS WRITTEN
   pub image-reads-back : isSound t ≡ true → readImage (imageOf t) ≡ record { number = 0; table = t }
   image-reads-back h =
       let made : Table → ReadImage = λ u. record { number = 0; table = u } in
-      let states : statesFit (imageOf t) 0 96 ≡ true = ap (statesFit (imageOf t) 0) (sym (f .size)) ∙ states-back (t .places) (t .ranks) beside calls in
-      let read : isRead (imageOf t) ≡ true = and-both (eq-eqb (length (imageOf t)) 2112 length-image) (and-both states (ap isSound table-back ∙ h)) in
-      ap (λ (b : Bool). cond b (made (tableFrom (imageOf t))) (record { number = 25; table = emptyTable })) read ∙ ap made table-back
+      ap (λ (b : Bool). cond b (made (tableFrom (imageOf t))) (record { number = 25; table = emptyTable })) (image-read ∙ h) ∙ ap made table-back
 
 -- ONE IMAGE, ONE TABLE: soundness is not needed
 pub one-image : (t u : Table) → Fit t → Fit u → imageOf t ≡ imageOf u → t ≡ u

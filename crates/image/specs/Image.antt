@@ -2,9 +2,10 @@
 -- first."; document 02, Q-4: "The image grows by one octet per place, after the count, to 2,112."): reading and writing it, with refusal 25,
 -- and a record put anew in it. Place i, counted from 0, starts at i * 22, and its rank stands 21 octets after its start.
 -- Assumes nothing.
+use mathlib.Core.Path.{_≡_}
 use mathlib.Core.Bool.{Bool, true, false, cond, _&&_}
 use mathlib.Core.List.{List, [], _∷_, _++_}
-use Prim.Native.Nat.{ℕ, zero, suc, _+_, _*_, _/_, _%_}
+use Prim.Native.Nat.{ℕ, zero, suc, _+_, _*_, _/_, _%_, _<_}
 use lib.Dec.{eqb, ltb}
 use lib.ListN.{length, getD, set, take, drop}
 use lib.Seq.{sets}
@@ -15,7 +16,7 @@ use Rattle.table.specs.declared.Table.{Table}
 use Rattle.table.specs.declared.Side.{Side}
 use Rattle.table.specs.declared.Found.{Found}
 use Rattle.table.specs.declared.Found.the-variants.{Nothing}
-use Rattle.table.specs.Places.{stateNumber, isFree, sideAt, freeRecord, emptyTable}
+use Rattle.table.specs.Places.{stateNumber, isFree, sideAt, freeRecord, emptyTable, recordAt}
 use Rattle.table.specs.Search.{findCall, lowestIn}
 use Rattle.table.specs.Sound.{isSound}
 use Rattle.table.specs.Ranks.{nextWaiting, callsOn, lowered}
@@ -39,6 +40,12 @@ octetsOfAll (r ∷ rs) (k ∷ ks) = octetsOf r ++ (k ∷ octetsOfAll rs ks)
 
 abbrev pub imageOf : Table → List ℕ
 imageOf t = octetsOfAll (t .places) (t .ranks)
+
+-- What the types say of a table: 96 places and ranks, 16 octets in each call. No bound of an octet or of a number is needed.
+pub record Fit (t : Table) : Type 0 where
+  pub size : length (t .places) ≡ 96
+  pub wide : length (t .ranks) ≡ 96
+  pub calls : (i : ℕ) → i < 96 → length (recordAt t i .call) ≡ 16
 
 -- "Writing refused by 25 (an unsound table, or a buffer not 2,016 octets)", which Q-4 makes 2,112
 abbrev pub isWritten : Table → List ℕ → Bool

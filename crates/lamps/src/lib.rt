@@ -1,5 +1,5 @@
 // Lamps for the pickup group: the served endpoint of H.450.5, 7.6, for eight members, beside the call table (document 02, Q-5). An event goes to
-// the table as it would without lamps (crate `step`), and what the table answers says what is sent to the members (`notice`). What a member
+// the table as it would without lamps, and what the table answers says what is sent to the members (`notice`). What a member
 // answers, or that it does not, is a reply (`reply`), which never reaches the table. What is kept is in `members`.
 
 pub mod members;
@@ -39,13 +39,13 @@ impl Endpoint {
     }
 }
 
-// One event at table and lamps together. The table's step is `step::single_step`, which knows of no lamps.
+// One event at table and lamps together. The table's step is `lent::single_step`, which knows of no lamps.
 pub fn tell(s: Endpoint, e: Event) -> Told
     ensures { λ r. ⌜ r ≡ toldOf s e ⌝ }
 {
     let t = s.table;
     let l = s.lamps;
-    let done = step::single_step(t, e);
+    let done = lent::single_step(t, e);
     let table = done.table;
     let answer = done.answer;
     if answer.number == 0 {

@@ -1,6 +1,6 @@
 -- At the image of a sound table, what is done octet by octet is the step of the machine: the answer is its answer, and what is left is the
--- image of its table. One record is put: the image that was read is the image of its table (`image-written-back`), and a record put in it
--- makes the new image (`place-put`).
+-- image of its table. One record is put, and a record put in an image makes the image of the table with that record put (`place-put`). An image
+-- that was read is the image of its table (`image-written-back`), and a table by value is what is read from its image (`table-back`).
 -- Assumes nothing.
 use mathlib.Core.Path.{_≡_, refl, sym, ap, _∙_}
 use mathlib.Core.Bool.{Bool, true, false, cond}
@@ -8,7 +8,7 @@ use mathlib.Core.List.{List}
 use Prim.Native.Nat.{ℕ, _<_}
 use lib.Dec.{eqb}
 use lib.ListN.{length, getD}
-use borrow.Author.Tests.{eqb-true, eq-eqb, ne-eqb}
+use borrow.Author.Tests.{eqb-true, eqb-false, eq-eqb, ne-eqb}
 use Rattle.laws.proofs.Bools.{and-left, and-right}
 use Rattle.table.specs.declared.Record.{Record}
 use Rattle.table.specs.declared.Table.{Table}
@@ -30,17 +30,19 @@ use Rattle.events.specs.Act.{stayCall, left, acted}
 use Rattle.step.specs.declared.aim.Aim.{Aim}
 use Rattle.step.specs.declared.aim.Aim.the-variants.{To, Nowhere}
 use Rattle.step.specs.Aim.{aim}
-use Rattle.step.specs.Step.{carriedOut, stepOf}
+use Rattle.step.specs.declared.Step.{Step}
+use Rattle.step.specs.Step.{carriedOut, stepAny, stepOf}
 use Rattle.step.proofs.Aims.{aim-inside}
+use Rattle.step.proofs.Promises.{refusal-keeps}
 use Rattle.events.proofs.Refusals.{refused-not-0}
 use Rattle.lines.specs.declared.ReadEvent.{ReadEvent}
 use Rattle.lines.specs.EventLine.{readLine}
 use Rattle.lent.specs.LineStep.{stepRead}
 use Rattle.lines.proofs.Ranged.{read-ranged}
-use Rattle.image.specs.Image.{imageOf, placePut, statesFit, tableFrom, isRead}
-use Rattle.image.proofs.Round.{fit-from, image-written-back}
-use Rattle.image.proofs.Puts.{place-put}
-use Rattle.lent.specs.Lent.{stepOn, leftOn, leftFor, eventAnswer, eventImage, lineAnswer, lineImage}
+use Rattle.image.specs.Image.{Fit, imageOf, placePut, statesFit, tableFrom, isRead}
+use Rattle.image.proofs.Round.{length-image, table-back, fit-from, image-written-back}
+use Rattle.image.proofs.Puts.{place-put, put-fit}
+use Rattle.lent.specs.Lent.{stepOn, leftOn, writtenAt, leftFor, eventAnswer, eventImage, lineAnswer, lineImage}
 
 -- what is left at a place has a call of 16 octets, where the event and the record have
 module _ (e : Event) (i : ℕ) (r : Record) (given : length (e .call) ≡ 16) (held : length (r .call) ≡ 16) where
@@ -57,6 +59,63 @@ module _ (e : Event) (i : ℕ) (r : Record) (given : length (e .call) ≡ 16) (h
   pub acted-long : length (acted e i r .after .call) ≡ 16
   acted-long = left-long (stayCall (ruleOf (e .kind)) e r) (turn (ruleOf (e .kind)) (sideAt i) r e) (stay-long (ruleOf (e .kind)))
 
+-- ---- at the image of a table
+
+module _ (t : Table) (f : Fit t) (sound : isSound t ≡ true) (e : Event) (given : length (e .call) ≡ 16) where
+  abbrev long : eqb (length (imageOf t)) 2112 ≡ true
+  long = eq-eqb (length (imageOf t)) 2112 (length-image t f)
+
+  -- an accepted event's record, in its place
+  place-kept : (i : ℕ) (a : Acted) → i < 96 → length (a .after .call) ≡ 16
+      → (b : Bool) → cond b (placePut i (a .after) (imageOf t)) (imageOf t) ≡ cond b (imageOf (put t i (a .after))) (imageOf t)
+  place-kept i a inside whole true = place-put t f i inside (a .after) whole
+  place-kept i a inside whole false = refl
+
+  by-aim : (k : Rule) → ruleOf (e .kind) ≡ k → (a : Aim) → aim (nextWaiting t) k t e ≡ a
+      → leftFor (imageOf t) e a ≡ cond (eqb (carriedOut k t e a .answer .number) 0) (imageOf (carriedOut k t e a .table)) (imageOf t)
+  by-aim k rule (Nowhere w) q = rw (ne-eqb (refusalNumber w) 0 (refused-not-0 w))
+  by-aim k rule (To i) q =
+      let inside : i < 96 = aim-inside t (f .size) k e i q in
+      let r : Record = recordAt t i in
+      ap (λ (u : Table). writtenAt (imageOf t) i (acted e i (recordAt u i))) (table-back t f)
+      ∙ rw (← rule) (place-kept i (acted e i r) inside (acted-long e i r given (f .calls i inside)) (eqb (acted e i r .answer .number) 0))
+
+  pub answer-of : eventAnswer (imageOf t) e ≡ stepOf t e .answer
+  answer-of = rw (long, sound) (ap (λ (u : Table). stepAny u e .answer) (table-back t f))
+
+  -- where the event is done, the image of the table after it
+  pub image-of : eventImage (imageOf t) e ≡ cond (eqb (stepOf t e .answer .number) 0) (imageOf (stepOf t e .table)) (imageOf t)
+  image-of =
+      rw (long, sound)
+      (ap (λ (u : Table). leftFor (imageOf t) e (aim (nextWaiting u) (ruleOf (e .kind)) u e)) (table-back t f)
+      ∙ by-aim (ruleOf (e .kind)) refl (aim (nextWaiting t) (ruleOf (e .kind)) t e) refl)
+
+  -- .. and where it is refused too, since then the table stays
+  pub image-after : eventImage (imageOf t) e ≡ imageOf (stepOf t e .table)
+  image-after = image-of ∙ by (eqb (stepOf t e .answer .number) 0) refl
+    where
+      by : (b : Bool) → eqb (stepOf t e .answer .number) 0 ≡ b → cond b (imageOf (stepOf t e .table)) (imageOf t) ≡ imageOf (stepOf t e .table)
+      by true q = refl
+      by false q = ap imageOf (sym (refusal-keeps t e (f .size, f .wide) (eqb-false _ 0 q)))
+
+  -- the table after it is as the types say
+  fit-at : (a : Aim) → aim (nextWaiting t) (ruleOf (e .kind)) t e ≡ a → Fit (carriedOut (ruleOf (e .kind)) t e a .table)
+  fit-at (Nowhere w) q = f
+  fit-at (To i) q =
+      let inside : i < 96 = aim-inside t (f .size) (ruleOf (e .kind)) e i q in
+      put-fit t f i inside (acted e i (recordAt t i) .after) (acted-long e i (recordAt t i) given (f .calls i inside))
+
+  pub fit-after : Fit (stepOf t e .table)
+  fit-after = rw sound (fit-at (aim (nextWaiting t) (ruleOf (e .kind)) t e) refl)
+
+  -- THE STEP, TAKEN AT THE IMAGE AND READ BACK
+  pub step-back : _≡_ {A = Step} (record { table = tableFrom (eventImage (imageOf t) e); answer = eventAnswer (imageOf t) e }) (stepOf t e)
+  step-back =
+      let there : tableFrom (eventImage (imageOf t) e) ≡ stepOf t e .table = ap tableFrom image-after ∙ table-back (stepOf t e .table) fit-after in
+      λ j. record { table = there j; answer = answer-of j }
+
+-- ---- at an image that is read
+
 module _ (image : List ℕ) (octets : (k : ℕ) → getD image k 0 < 256) (good : isRead image ≡ true) where
   abbrev held : Table
   held = tableFrom image
@@ -67,29 +126,18 @@ module _ (image : List ℕ) (octets : (k : ℕ) → getD image k 0 < 256) (good 
   pub image-sound : isSound held ≡ true
   image-sound = and-right (statesFit image 0 96) _ (and-right (eqb (length image) 2112) _ good)
 
+  written-back : imageOf held ≡ image
+  written-back = image-written-back image (λ k h. octets k) good
+
   module _ (e : Event) (given : length (e .call) ≡ 16) where
-    -- an accepted event's record, in its place
-    place-kept : (i : ℕ) (a : Acted) → i < 96 → length (a .after .call) ≡ 16
-        → (b : Bool) → cond b (placePut i (a .after) image) image ≡ cond b (imageOf (put held i (a .after))) image
-    place-kept i a inside long true =
-        ap (placePut i (a .after)) (sym (image-written-back image (λ k h. octets k) good))
-        ∙ place-put held (fit-from image image-long) i inside (a .after) long
-    place-kept i a inside long false = refl
+    answer-kept : eventAnswer image e ≡ stepOf held e .answer
+    answer-kept = ap (λ (o : List ℕ). eventAnswer o e) (sym written-back) ∙ answer-of held (fit-from image image-long) image-sound e given
 
-    by-aim : (k : Rule) → ruleOf (e .kind) ≡ k → (a : Aim) → aim (nextWaiting held) k held e ≡ a
-        → leftFor image e a ≡ cond (eqb (carriedOut k held e a .answer .number) 0) (imageOf (carriedOut k held e a .table)) image
-    by-aim k rule (Nowhere w) q = rw (ne-eqb (refusalNumber w) 0 (refused-not-0 w))
-    by-aim k rule (To i) q =
-        let fit = fit-from image image-long in
-        let inside : i < 96 = aim-inside held (fit .size) k e i q in
-        let r : Record = recordAt held i in
-        rw (← rule) (place-kept i (acted e i r) inside (acted-long e i r given (fit .calls i inside)) (eqb (acted e i r .answer .number) 0))
-
-    pub answer-kept : eventAnswer image e ≡ stepOf held e .answer
-    answer-kept = rw (eq-eqb (length image) 2112 image-long, image-sound)
-
-    pub image-kept : eventImage image e ≡ cond (eqb (stepOf held e .answer .number) 0) (imageOf (stepOf held e .table)) image
-    image-kept = rw (eq-eqb (length image) 2112 image-long, image-sound) (by-aim (ruleOf (e .kind)) refl (aim (nextWaiting held) (ruleOf (e .kind)) held e) refl)
+    image-kept : eventImage image e ≡ cond (eqb (stepOf held e .answer .number) 0) (imageOf (stepOf held e .table)) image
+    image-kept =
+        ap (λ (o : List ℕ). eventImage o e) (sym written-back)
+        ∙ image-of held (fit-from image image-long) image-sound e given
+        ∙ ap (λ (o : List ℕ). cond (eqb (stepOf held e .answer .number) 0) (imageOf (stepOf held e .table)) o) written-back
 
   -- THE LINE AT THE IMAGE
   pub line-kept : (line : List ℕ) → (lineAnswer image line ≡ stepOn image line .answer) × (lineImage image line ≡ leftOn image line)

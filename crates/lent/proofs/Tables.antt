@@ -10,31 +10,22 @@ use lib.Dec.{eqb}
 use lib.ListN.{length, getD, replicate, length-replicate, getD-replicate, replicate-append-replicate}
 use borrow.Author.Tests.{eqb-false}
 use Rattle.table.specs.declared.Table.{Table}
-use Rattle.table.specs.Places.{freeRecord, emptyTable, blank, recordAt}
-use Rattle.table.specs.Ranks.{nextWaiting}
+use Rattle.table.specs.Places.{freeRecord, emptyTable, blank}
 use Rattle.table.specs.Sound.{isSound}
 use Rattle.table.proofs.Facts.{empty-sound}
 use Rattle.events.specs.declared.Event.{Event}
 use Rattle.events.specs.declared.message.Message.the-variants.{NoMessage}
-use Rattle.events.specs.Rule.{ruleOf}
 use Rattle.events.specs.Answers.{saying}
-use Rattle.events.specs.Act.{acted}
-use Rattle.step.specs.declared.aim.Aim.{Aim}
-use Rattle.step.specs.declared.aim.Aim.the-variants.{To, Nowhere}
-use Rattle.step.specs.Aim.{aim}
-use Rattle.step.specs.Step.{carriedOut, stepOf}
-use Rattle.step.proofs.Aims.{aim-inside}
+use Rattle.step.specs.Step.{stepOf}
 use Rattle.step.proofs.Promises.{keeps-sound, refusal-keeps}
 use Rattle.lines.specs.declared.ReadEvent.{ReadEvent}
 use Rattle.lines.specs.EventLine.{readLine}
 use Rattle.lent.specs.LineStep.{lineStep}
 use Rattle.lines.proofs.Ranged.{read-ranged}
-use Rattle.image.specs.declared.ReadImage.{ReadImage}
-use Rattle.image.specs.Image.{octetsOf, octetsOfAll, imageOf, tableFrom, isRead}
-use Rattle.image.proofs.Puts.{put-fit}
-use Rattle.image.proofs.Round.{Fit, fit-from, image-reads-back, image-written-back}
+use Rattle.image.specs.Image.{Fit, octetsOf, octetsOfAll, imageOf, tableFrom, isRead}
+use Rattle.image.proofs.Round.{fit-from, image-read, image-reads-back, image-written-back}
 use Rattle.lent.specs.Lent.{stepOn, stepAt, leftOn}
-use Rattle.lent.proofs.Kept.{acted-long, image-long, image-sound}
+use Rattle.lent.proofs.Kept.{fit-after, image-long, image-sound}
 
 -- a table as the types say, and sound
 pub record Good (t : Table) : Type 0 where
@@ -44,14 +35,8 @@ pub record Good (t : Table) : Type 0 where
 -- ---- after an event
 
 module _ (t : Table) (g : Good t) (e : Event) (given : length (e .call) ≡ 16) where
-  fit-at : (a : Aim) → aim (nextWaiting t) (ruleOf (e .kind)) t e ≡ a → Fit (carriedOut (ruleOf (e .kind)) t e a .table)
-  fit-at (Nowhere w) q = g .fit
-  fit-at (To i) q =
-      let inside : i < 96 = aim-inside t (g .fit .size) (ruleOf (e .kind)) e i q in
-      put-fit t (g .fit) i inside (acted e i (recordAt t i) .after) (acted-long e i (recordAt t i) given (g .fit .calls i inside))
-
   event-good : Good (stepOf t e .table)
-  event-good = record { fit = rw (g .sound) (fit-at (aim (nextWaiting t) (ruleOf (e .kind)) t e) refl); sound = keeps-sound t e (g .fit .size, g .fit .wide) (g .sound) }
+  event-good = record { fit = fit-after t (g .fit) (g .sound) e given; sound = keeps-sound t e (g .fit .size, g .fit .wide) (g .sound) }
 
 -- ---- after a line
 
@@ -86,11 +71,7 @@ module _ (t : Table) (g : Good t) (line : List ℕ) where
 
 -- the image of a good table is read
 pub image-good : (t : Table) → Good t → isRead (imageOf t) ≡ true
-image-good t g = by (isRead (imageOf t)) (ap (λ r. r .number) (image-reads-back t (g .fit) (g .sound)))
-  where
-    by : (b : Bool) → cond {A = ReadImage} b (record { number = 0; table = tableFrom (imageOf t) }) (record { number = 25; table = emptyTable }) .number ≡ 0 → b ≡ true
-    by true q = refl
-    by false q = absurd (omega arith)
+image-good t g = image-read t (g .fit) ∙ g .sound
 
 -- AN IMAGE STAYS READ
 pub stays-read : (image line : List ℕ) → ((k : ℕ) → getD image k 0 < 256) → isRead image ≡ true → isRead (leftOn image line) ≡ true

@@ -1,6 +1,14 @@
 // The table kept as its image, in octets that the caller lends. No table is copied: an event is for one place, and only the octets of that
 // place are read and written, and ranks of its side where a call begins or ends. What comes of a line is defined in specs/Lent.antt, by the
-// machine's own definition.
+// machine's own definition. A table by value is stepped, tested and written in the same way, at its image in an array of its own.
+
+mod octets;
+pub mod places;
+mod ranks;
+mod search;
+pub mod sound;
+pub mod status;
+mod words;
 
 use events::Answer;
 use events::Event;
@@ -8,11 +16,12 @@ use events::answers;
 use events::refusal::Refusal;
 use events::sought;
 use events::sought::Sought;
-use image::search;
+use step::Step;
 use table::Found;
 use table::Place;
 use table::Side;
 use table::State;
+use table::Table;
 ghost use mathlib.Core.Path.{_≡_};
 ghost use mathlib.Core.Bool.{true};
 ghost use Prim.Native.Nat.{ℕ, _<_};
@@ -23,7 +32,7 @@ ghost use Rattle.events.specs.Rule.{ruleOf};
 ghost use Rattle.events.specs.Act.{acted};
 ghost use Rattle.table.specs.Ranks.{nextWaiting};
 ghost use Rattle.step.specs.Aim.{aimAt, isProposed, chosen, aimNew, aim};
-ghost use Rattle.step.specs.Step.{carriedOut, stepAny};
+ghost use Rattle.step.specs.Step.{carriedOut, stepAny, stepOf};
 ghost use Rattle.image.specs.Image.{tableFrom, isRead};
 ghost use Rattle.lent.specs.Lent.{stepOn, leftOn, writtenAt, leftFor, eventAnswer, eventImage, lineAnswer, lineImage};
 
@@ -32,12 +41,12 @@ fn act_at(image: &mut [u8], i: usize, e: Event) -> Answer
     requires { ⌜ (length (now image) ≡ 2112) × (i < 96) ⌝ }
     ensures { λ r. ⌜ (r ≡ acted e i (recordAt (tableFrom (now (image .entry))) i) .answer) × (now (image .exit) ≡ writtenAt (now (image .entry)) i (acted e i (recordAt (tableFrom (now (image .entry))) i))) ⌝ }
 {
-    let r = image::read_place(i, image);
+    let r = places::read_place(i, image);
     let a = events::act(e, i, r);
     let answer = a.answer;
     if answer.number == 0 {
         let after = a.after;
-        image::put_place(i, after, image);
+        places::put_place(i, after, image);
     }
     answer
 }
@@ -59,7 +68,7 @@ fn is_proposed(image: &[u8], d: Side, p: Place) -> bool
 {
     if p.side().is_of(d) {
         let i = (p.0 - 1) as usize;
-        let r = image::read_place(i, image);
+        let r = places::read_place(i, image);
         let s = r.state;
         s.is_free()
     } else {
@@ -124,6 +133,26 @@ pub fn step_event(image: &mut [u8], e: Event) -> Answer
     act_on(image, e)
 }
 
+// THE STEP. Any table and any event have an answer: a table that is not sound is refused by 25, and the event then by 1 to 10
+// or not at all.
+pub fn single_step(t: Table, e: Event) -> Step
+    ensures { λ r. ⌜ r ≡ stepOf t e ⌝ }
+{
+    let mut octets = places::octets_of(t);
+    if sound::places_sound(&octets) {
+        let answer = step_event(&mut octets, e);
+        Step {
+            table: places::read_places(&octets),
+            answer,
+        }
+    } else {
+        Step {
+            table: t,
+            answer: answers::decline(e, Refusal::TableUnsound),
+        }
+    }
+}
+
 // A line at an image, in the same way. Where the image is one of a sound table, this is the step of the line at its table.
 pub fn step_line(image: &mut [u8], line: &[u8]) -> Answer
     ensures { λ r. ⌜ (r ≡ lineAnswer (now (image .entry)) (now (line .entry))) × (now (image .exit) ≡ lineImage (now (image .entry)) (now (line .entry))) × (isRead (now (image .entry)) ≡ true → (lineAnswer (now (image .entry)) (now (line .entry)) ≡ stepOn (now (image .entry)) (now (line .entry)) .answer) × (lineImage (now (image .entry)) (now (line .entry)) ≡ leftOn (now (image .entry)) (now (line .entry)))) ⌝ }
@@ -141,7 +170,7 @@ pub fn step_line(image: &mut [u8], line: &[u8]) -> Answer
 pub fn answer_line(image: &mut [u8], line: &[u8]) -> Answer
     ensures { λ r. ⌜ (r ≡ stepOn (now (image .entry)) (now (line .entry)) .answer) × (now (image .exit) ≡ leftOn (now (image .entry)) (now (line .entry))) ⌝ }
 {
-    if image::sound::is_read(image) {
+    if sound::is_read(image) {
         step_line(image, line)
     } else {
         answers::only_number(25)

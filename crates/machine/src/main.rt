@@ -59,8 +59,14 @@ fn record_in(state: State) -> Record {
     }
 }
 
+// The only call of its side has rank 1.
 fn table_before(side: Side, state: State) -> Table {
-    queue::put_record(Table::empty(), index_of(side), record_in(state))
+    let i = index_of(side);
+    let r = record_in(state);
+    let mut t = Table::empty();
+    t.places[i] = r;
+    t.ranks[i] = if state.is_free() { 0 } else { 1 };
+    t
 }
 
 // A refusal's answer does not say what state the place still has, so it is read from the table.
@@ -127,7 +133,7 @@ fn put_timer(timer: u8) {
 // proposes a position at a line, so those are of the other side's machine.
 fn put_row(side: Side, state: State, kind: u8, reply: Reply, timer: u8) {
     let e = event_at(side, kind, reply, timer);
-    let s = step::single_step(table_before(side, state), e);
+    let s = lent::single_step(table_before(side, state), e);
     let a = s.answer;
     if a.number == 0 {
         if a.place.0 != e.place.0 {

@@ -5,7 +5,7 @@
 
 use events::Answer;
 use events::answers;
-use image::sound;
+use lent::sound;
 ghost use mathlib.Core.Path.{_≡_};
 ghost use Prim.Native.Nat.{_+_, _-_, _≤_, min};
 ghost use lib.ListN.{length, take, drop};

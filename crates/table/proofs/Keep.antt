@@ -9,8 +9,8 @@ use native.Mathlib.Nat.{zero-add}
 use native.Mathlib.Omega.{arith}
 use lib.Dec.{eqb}
 use borrow.Author.Tests.{eqb-true, eq-eqb, ne-eqb}
-use lib.ListN.{length, getD, set, length-set, List·getD-eq-default}
-use lib.Seq.{getD-set-same, getD-set-other, set-out, set-getD}
+use lib.ListN.{length, getD, set, length-set}
+use lib.Seq.{getD-set-same, getD-set-other, set-getD}
 use Rattle.laws.proofs.Bools.{equal-or, not-both}
 use Rattle.table.specs.declared.Side.{Side}
 use Rattle.table.specs.declared.Record.{Record}
@@ -19,17 +19,6 @@ use Rattle.table.specs.Places.{stateNumber, isFree, sameSide, sideAt, no
 use Rattle.table.specs.Sound.{fitsSide, Sound}
 use Rattle.table.specs.Ranks.{heldOn, callsOn, lowered, closedUp, reranked, put}
 use Rattle.table.proofs.RankLaws.{same-side, other-side, total-set, closed-size, closed-below, Drops, drops, keeps, aside, drops-view}
-
--- past the table nothing is put
-pub put-outside : (t : Table) (i : ℕ) (r : Record) → length (t .places) ≤ i → length (t .ranks) ≤ i → put t i r ≡ t
-put-outside t i r hp hr = by (isFree (r .state))
-  where
-    blank-there : recordAt t i ≡ blank
-    blank-there = List·getD-eq-default (t .places) blank hp
-
-    by : (c : Bool) → record { places = set (t .places) i r; ranks = reranked t i (isFree (recordAt t i .state)) c } ≡ t
-    by true = rw (blank-there, set-out (t .places) i r hp)
-    by false = rw (blank-there, set-out (t .places) i r hp, set-out (t .ranks) i (callsOn t (sideAt i) + 1) hr)
 
 -- the record that was there, put again
 pub put-same : (t : Table) (i : ℕ) → put t i (recordAt t i) ≡ t

@@ -117,19 +117,6 @@ unfolding closedUp
 closed-size a k zero l = refl
 closed-size a k (suc n) l = length-set (closedUp a k n l) n _ ∙ closed-size a k n l
 
-pub closed-none : (a : Side) (k : ℕ) (l : List ℕ) → closedUp a k 0 l ≡ l
-unfolding closedUp
-closed-none a k l = refl
-
-pub closed-more : (a : Side) (k n : ℕ) (l : List ℕ) → closedUp a k (n + 1) l ≡ set (closedUp a k n l) n (lowered a k n (getD l n 0))
-unfolding closedUp
-closed-more a k n l = ap (λ m. closedUp a k m l) (add-one n)
-
-pub closed-above : (a : Side) (k n : ℕ) (l : List ℕ) (j : ℕ) → n ≤ j → getD (closedUp a k n l) j 0 ≡ getD l j 0
-unfolding closedUp
-closed-above a k zero l j h = refl
-closed-above a k (suc n) l j h = getD-set-other (closedUp a k n l) n j _ 0 (λ e. absurd (omega (arith, e))) ∙ closed-above a k n l j (omega arith)
-
 pub closed-below : (a : Side) (k n : ℕ) (l : List ℕ) (j : ℕ) → j < n → j < length l → getD (closedUp a k n l) j 0 ≡ lowered a k j (getD l j 0)
 unfolding closedUp
 closed-below a k zero l j h w = absurd (not-suc-le-zero h)

@@ -15,16 +15,11 @@ use Rattle.table.proofs.Table.empty.Reads as empty
 use Rattle.table.proofs.timers.timer_set.Reads as timer-set
 use Rattle.table.proofs.timers.started.Reads as started
 use Rattle.table.proofs.search.same_call.Reads as same-call
-use Rattle.table.proofs.search.find_call.Reads as find-call
 use Rattle.table.proofs.search.is_at.Reads as is-at
-use Rattle.table.proofs.search.lowest_in.Reads as lowest-in
-use Rattle.table.proofs.ranks.calls_on.Reads as calls-on
 use Rattle.table.proofs.ranks.of_side.Reads as of-side
 use Rattle.table.proofs.ranks.enter_rank.Reads as enter-rank
 use Rattle.table.proofs.ranks.move_up.Reads as move-up
 use Rattle.table.proofs.Side.same.Reads as same
-use Rattle.table.proofs.sound.is_sound.Reads as is-sound
-use Rattle.table.proofs.status.status_of.Reads as status-of
 
 pub record Decided : Type 0 where
   pub number-decided : Decides state-number.Post
@@ -39,16 +34,11 @@ pub record Decided : Type 0 where
   pub timer-set-decided : Decides timer-set.Post
   pub started-decided : Decides started.Post
   pub same-call-decided : Decides same-call.Post
-  pub find-call-decided : Decides find-call.Post
   pub is-at-decided : Decides is-at.Post
-  pub lowest-in-decided : Decides lowest-in.Post
-  pub calls-on-decided : Decides calls-on.Post
   pub of-side-decided : Decides of-side.Post
   pub enter-rank-decided : DecidesMemory enter-rank.Post (λ κ d. now (d .0))
   pub move-up-decided : Decides move-up.Post
   pub same-decided : Decides same.Post
-  pub is-sound-decided : Decides is-sound.Post
-  pub status-of-decided : Decides status-of.Post
 
 pub decided : Decided
 decided = record {
@@ -64,14 +54,9 @@ decided = record {
   timer-set-decided = λ κ a x y d e p q. p ∙ sym q;
   started-decided = λ κ a x y d e p q. p ∙ sym q;
   same-call-decided = λ κ a x y d e p q. p ∙ sym q;
-  find-call-decided = λ κ a x y d e p q. p ∙ sym q;
   is-at-decided = λ κ a x y d e p q. p ∙ sym q;
-  lowest-in-decided = λ κ a x y d e p q. p ∙ sym q;
-  calls-on-decided = λ κ a x y d e p q. p ∙ sym q;
   of-side-decided = λ κ a x y d e p q. p ∙ sym q;
   enter-rank-decided = λ κ a x y d e p q. (p .0 ∙ sym (q .0), p .1 ∙ sym (q .1));
   move-up-decided = λ κ a x y d e p q. p ∙ sym q;
   same-decided = λ κ a x y d e p q. p ∙ sym q;
-  is-sound-decided = λ κ a x y d e p q. p ∙ sym q;
-  status-of-decided = λ κ a x y d e p q. p ∙ sym q;
 }

@@ -1,12 +1,11 @@
-// The table of held calls: 96 places with a record and a rank each, the timers that run in a state, the test of soundness and the status
-// query. What each word means is defined in specs/, from document 01's "Places and records" and "Lines, image, status", and document 02's Q-4.
+// The table of held calls as a value: 96 places with a record and a rank each, and the timers that run in a state. What each word means, when a
+// table is sound and what its status is, is defined in specs/, from document 01's "Places and records" and "Lines, image, status", and document
+// 02's Q-4. What runs looks at a table as its image (crate `lent`).
 //
 // Places are counted from 1 and are a type of their own; an index into the array is counted from 0.
 
-mod keys;
 pub mod ranks;
 pub mod search;
-pub mod sound;
 pub mod status;
 pub mod timers;
 
