@@ -1,9 +1,10 @@
 // A session over standard input and standard output: all that a read brought is answered before the next read waits, and the answers go
-// out in blocks. No contract can say what is read or written; what is answered to what is `session`'s.
+// out in blocks. No contract can say what is read or written; what is answered to what is `lent::session`'s.
 
+use lent::session;
+use lent::session::Session;
 use libc::STDIN_FILENO;
 use libc::STDOUT_FILENO;
-use session::Session;
 ghost use Prim.Native.Nat.{_≤_};
 ghost use lib.ListN.{length};
 

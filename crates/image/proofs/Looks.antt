@@ -1,6 +1,6 @@
 -- Looking through the places of an image, one after the other.
 -- Assumes nothing.
-use mathlib.Core.Path.{_≡_, refl, sym, _∙_}
+use mathlib.Core.Path.{_≡_, refl, _∙_}
 use mathlib.Core.Bool.{Bool, true, false, cond, not, _&&_}
 use mathlib.Core.List.{List}
 use Prim.Native.Nat.{ℕ, _+_, _-_, _*_, _<_, _≤_}
@@ -8,21 +8,12 @@ use native.Mathlib.Omega.{arith}
 use lib.Dec.{eqb}
 use lib.ListN.{length, getD, take, drop}
 use lib.Seq.{take-all}
-use borrow.Author.Tests.{eq-eqb, lt-ltb}
-use Rattle.table.specs.declared.Side.{Side}
-use Rattle.table.specs.declared.State.{State}
 use Rattle.table.specs.declared.Record.{Record}
 use Rattle.table.specs.declared.Found.the-variants.{At, Nothing}
-use Rattle.table.specs.Places.{recordAt}
-use Rattle.table.specs.Search.{sameCall, holds, lowest, findCall, lowestIn, total}
-use Rattle.table.specs.Ranks.{nextWaiting}
-use Rattle.image.specs.Image.{recordFrom, recordsFrom, tableFrom, placeRead, foundIn, lowestFound, nextFound}
-use Rattle.image.proofs.Round.{record-at}
+use Rattle.table.specs.Search.{sameCall, holds, lowest, total}
+use Rattle.image.specs.Image.{recordFrom, recordsFrom}
 use Rattle.image.proofs.Fills.{records-step}
 use Rattle.image.proofs.PlaceLaws.{free-octet}
-
-pub place-read : (s : List ℕ) (i : ℕ) → length s ≡ 2112 → i < 96 → placeRead i s ≡ recordAt (tableFrom s) i
-place-read s i size h = rw (eq-eqb (length s) 2112 size, lt-ltb i 96 h) (sym (record-at s i h))
 
 -- place i passes the test, or the places after it decide
 pub lowest-place : (p : ℕ → Record → Bool) (s : List ℕ) (i : ℕ) → i < 96
@@ -66,17 +57,6 @@ module _ (s : List ℕ) (i : ℕ) (call : List ℕ) where
 
   pub holds-other : sameCall (take 16 (drop (i * 22 + 1) s)) call ≡ false → holds call (recordFrom s (i * 22)) ≡ false
   holds-other h = by-octets ∙ rw h (and-false (not (eqb (getD s (i * 22) 0) 0)))
-
--- an image of the right length
-module _ (s : List ℕ) (size : length s ≡ 2112) where
-  pub found-in : (call : List ℕ) → foundIn s call ≡ findCall (tableFrom s) call
-  found-in call = rw (eq-eqb (length s) 2112 size)
-
-  pub lowest-found : (a : Side) (u : State) → lowestFound s a u ≡ lowestIn (tableFrom s) a u
-  lowest-found a u = rw (eq-eqb (length s) 2112 size)
-
-  pub next-found : (a : Side) → nextFound s a ≡ nextWaiting (tableFrom s) a
-  next-found a = rw (eq-eqb (length s) 2112 size)
 
 -- a call is all of its sixteen octets
 pub whole-call : (call : List ℕ) → length call ≡ 16 → take 16 (drop 0 call) ≡ call

@@ -9,7 +9,6 @@ use native.Mathlib.Numerals.{add-one}
 use native.Mathlib.Omega.{arith}
 use lib.ListN.{length, set, length-set}
 use lib.Seq.{sets, getD-set-other, set-getD}
-use borrow.Author.Tests.{eq-eqb, lt-ltb}
 use Rattle.laws.proofs.Bools.{equal-or}
 use Rattle.table.specs.declared.Side.{Side}
 use Rattle.table.specs.declared.Record.{Record}
@@ -19,7 +18,7 @@ use Rattle.table.specs.Ranks.{callsOn, lowered, closedUp, reranked, put}
 use Rattle.table.proofs.RankLaws.{closed-size, lowered-aside}
 use Rattle.table.proofs.Keep.{reranked-wide, put-size, put-wide, each}
 use Rattle.image.specs.Image.{Fit, octetsOf, imageOf, recordFrom, rankOctet, closedUpIn, rerankedIn, placePut}
-use Rattle.image.proofs.Round.{length-image, table-back, record-image, rank-image, record-at, rank-at}
+use Rattle.image.proofs.Round.{table-back, record-image, rank-image, record-at, rank-at}
 
 -- ---- the ranks of a side, one place more
 
@@ -104,7 +103,7 @@ module _ (t : Table) (f : Fit t) where
       place-put =
           let b = isFree (recordAt t i .state) in
           let c = isFree (r .state) in
-          rw (eq-eqb (length (imageOf t)) 2112 (length-image t f), lt-ltb i 96 inside, was)
+          rw was
           (ap (λ (s : List ℕ). sets s (i * 22) (octetsOf r)) (reranked-image b c)
           ∙ record-image (ranked (reranked t i b c)) (ranked-fit (reranked t i b c) (reranked-wide t i (f .wide) b c)) i inside r long)
 

@@ -14,12 +14,9 @@ use Rattle.table.specs.declared.State.the-variants.{Free, ParkWaiting, LineWait
 use Rattle.table.specs.declared.Record.{Record}
 use Rattle.table.specs.declared.Table.{Table}
 use Rattle.table.specs.declared.Side.{Side}
-use Rattle.table.specs.declared.Found.{Found}
-use Rattle.table.specs.declared.Found.the-variants.{Nothing}
-use Rattle.table.specs.Places.{stateNumber, isFree, sideAt, freeRecord, emptyTable, recordAt}
-use Rattle.table.specs.Search.{findCall, lowestIn}
+use Rattle.table.specs.Places.{stateNumber, isFree, sideAt, emptyTable, recordAt}
 use Rattle.table.specs.Sound.{isSound}
-use Rattle.table.specs.Ranks.{nextWaiting, callsOn, lowered}
+use Rattle.table.specs.Ranks.{callsOn, lowered}
 use Rattle.image.specs.declared.ReadImage.{ReadImage}
 
 -- ---- writing
@@ -109,21 +106,6 @@ isRead s = eqb (length s) 2112 && (statesFit s 0 96 && isSound (tableFrom s))
 abbrev pub readImage : List ℕ → ReadImage
 readImage s = cond (isRead s) (record { number = 0; table = tableFrom s }) (record { number = 25; table = emptyTable })
 
--- ---- one place, and looking through the places, in an image of the right length
-
-abbrev pub placeRead : ℕ → List ℕ → Record
-placeRead i s = cond (eqb (length s) 2112 && ltb i 96) (recordFrom s (i * 22)) freeRecord
-
-abbrev pub foundIn : List ℕ → List ℕ → Found
-foundIn s call = cond (eqb (length s) 2112) (findCall (tableFrom s) call) Nothing
-
-abbrev pub lowestFound : List ℕ → Side → State → Found
-lowestFound s a u = cond (eqb (length s) 2112) (lowestIn (tableFrom s) a u) Nothing
-
--- the waiting call of a side that came first
-abbrev pub nextFound : List ℕ → Side → Found
-nextFound s a = cond (eqb (length s) 2112) (nextWaiting (tableFrom s) a) Nothing
-
 -- ---- a record put anew, in an image of the right length: what `put` does to a table, done to its octets
 
 -- the rank octet of place i
@@ -143,7 +125,4 @@ rerankedIn s i false true = set (closedUpIn (sideAt i) (rankOctet s i) 96 s) (i 
 rerankedIn s i false false = s
 
 abbrev pub placePut : ℕ → Record → List ℕ → List ℕ
-placePut i r s =
-    cond (eqb (length s) 2112 && ltb i 96)
-    (sets (rerankedIn s i (isFree (recordFrom s (i * 22) .state)) (isFree (r .state))) (i * 22) (octetsOf r))
-    s
+placePut i r s = sets (rerankedIn s i (isFree (recordFrom s (i * 22) .state)) (isFree (r .state))) (i * 22) (octetsOf r)

@@ -8,7 +8,7 @@ use mathlib.Core.List.{List}
 use Prim.Native.Nat.{ℕ, _<_}
 use lib.Dec.{eqb}
 use lib.ListN.{length, getD}
-use borrow.Author.Tests.{eqb-true, eqb-false, eq-eqb, ne-eqb}
+use borrow.Author.Tests.{eqb-true, eqb-false, ne-eqb}
 use Rattle.laws.proofs.Bools.{and-left, and-right}
 use Rattle.table.specs.declared.Record.{Record}
 use Rattle.table.specs.declared.Table.{Table}
@@ -40,9 +40,9 @@ use Rattle.lines.specs.EventLine.{readLine}
 use Rattle.lent.specs.LineStep.{stepRead}
 use Rattle.lines.proofs.Ranged.{read-ranged}
 use Rattle.image.specs.Image.{Fit, imageOf, placePut, statesFit, tableFrom, isRead}
-use Rattle.image.proofs.Round.{length-image, table-back, fit-from, image-written-back}
+use Rattle.image.proofs.Round.{table-back, fit-from, image-written-back}
 use Rattle.image.proofs.Puts.{place-put, put-fit}
-use Rattle.lent.specs.Lent.{stepOn, leftOn, writtenAt, leftFor, eventAnswer, eventImage, lineAnswer, lineImage}
+use Rattle.lent.specs.Lent.{stepOn, leftOn, writtenAt, leftFor, eventAnswer, eventImage}
 
 -- what is left at a place has a call of 16 octets, where the event and the record have
 module _ (e : Event) (i : ℕ) (r : Record) (given : length (e .call) ≡ 16) (held : length (r .call) ≡ 16) where
@@ -62,9 +62,6 @@ module _ (e : Event) (i : ℕ) (r : Record) (given : length (e .call) ≡ 16) (h
 -- ---- at the image of a table
 
 module _ (t : Table) (f : Fit t) (sound : isSound t ≡ true) (e : Event) (given : length (e .call) ≡ 16) where
-  abbrev long : eqb (length (imageOf t)) 2112 ≡ true
-  long = eq-eqb (length (imageOf t)) 2112 (length-image t f)
-
   -- an accepted event's record, in its place
   place-kept : (i : ℕ) (a : Acted) → i < 96 → length (a .after .call) ≡ 16
       → (b : Bool) → cond b (placePut i (a .after) (imageOf t)) (imageOf t) ≡ cond b (imageOf (put t i (a .after))) (imageOf t)
@@ -81,12 +78,12 @@ module _ (t : Table) (f : Fit t) (sound : isSound t ≡ true) (e : Event) (given
       ∙ rw (← rule) (place-kept i (acted e i r) inside (acted-long e i r given (f .calls i inside)) (eqb (acted e i r .answer .number) 0))
 
   pub answer-of : eventAnswer (imageOf t) e ≡ stepOf t e .answer
-  answer-of = rw (long, sound) (ap (λ (u : Table). stepAny u e .answer) (table-back t f))
+  answer-of = rw sound (ap (λ (u : Table). stepAny u e .answer) (table-back t f))
 
   -- where the event is done, the image of the table after it
   pub image-of : eventImage (imageOf t) e ≡ cond (eqb (stepOf t e .answer .number) 0) (imageOf (stepOf t e .table)) (imageOf t)
   image-of =
-      rw (long, sound)
+      rw sound
       (ap (λ (u : Table). leftFor (imageOf t) e (aim (nextWaiting u) (ruleOf (e .kind)) u e)) (table-back t f)
       ∙ by-aim (ruleOf (e .kind)) refl (aim (nextWaiting t) (ruleOf (e .kind)) t e) refl)
 
@@ -139,9 +136,11 @@ module _ (image : List ℕ) (octets : (k : ℕ) → getD image k 0 < 256) (good 
         ∙ image-of held (fit-from image image-long) image-sound e given
         ∙ ap (λ (o : List ℕ). cond (eqb (stepOf held e .answer .number) 0) (imageOf (stepOf held e .table)) o) written-back
 
-  -- THE LINE AT THE IMAGE
-  pub line-kept : (line : List ℕ) → (lineAnswer image line ≡ stepOn image line .answer) × (lineImage image line ≡ leftOn image line)
-  line-kept line = rw good (by (readLine line) (eqb (readLine line .number) 0) refl (read-ranged line .call))
+  -- THE LINE AT THE IMAGE: the event that it says, or its refusal
+  pub line-kept : (line : List ℕ) (b : Bool) → eqb (readLine line .number) 0 ≡ b
+      → (cond b (eventAnswer image (readLine line .event)) (saying (readLine line .number) NoMessage) ≡ stepOn image line .answer)
+      × (cond b (eventImage image (readLine line .event)) image ≡ leftOn image line)
+  line-kept line b said = rw good (by (readLine line) b said (read-ranged line .call))
     where
       by : (r : ReadEvent) (b : Bool) → eqb (r .number) 0 ≡ b → length (r .event .call) ≡ 16
           → (cond b (eventAnswer image (r .event)) (saying (r .number) NoMessage) ≡ stepRead held r .answer)

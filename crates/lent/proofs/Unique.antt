@@ -5,12 +5,12 @@ use mathlib.Core.Path.{sym, _∙_}
 use denote.Ref.{now}
 use Rattle.laws.specs.Decides.{Decides, DecidesMemory}
 use Rattle.lent.proofs.single_step.Reads as single-step
+use Rattle.lent.proofs.session.Session.start.Reads as start
+use Rattle.lent.proofs.session.feed.Reads as feed
+use Rattle.lent.proofs.session.finish.Reads as finish
 use Rattle.lent.proofs.status.status_of.Reads as status-of
 use Rattle.lent.proofs.places.read_image.Reads as read-image
 use Rattle.lent.proofs.places.write_image.Reads as write-image
-use Rattle.lent.proofs.sound.is_read.Reads as is-read
-use Rattle.lent.proofs.step_event.Reads as step-event
-use Rattle.lent.proofs.step_line.Reads as step-line
 use Rattle.lent.proofs.answer_line.Reads as answer-line
 
 pub single-step-decided : Decides single-step.Post
@@ -22,19 +22,20 @@ status-of-decided κ a x y d e p q = p ∙ sym q
 pub read-image-decided : Decides read-image.Post
 read-image-decided κ a x y d e p q = p ∙ sym q
 
-pub is-read-decided : Decides is-read.Post
-is-read-decided κ a x y d e p q = p ∙ sym q
-
 -- the buffer is the second parameter
 pub write-image-decided : DecidesMemory write-image.Post (λ κ d. now (d .1 .0))
 write-image-decided κ a x y d e p q = (p .0 ∙ sym (q .0), p .1 ∙ sym (q .1))
 
 -- the image is the first parameter
-pub step-event-decided : DecidesMemory step-event.Post (λ κ d. now (d .0))
-step-event-decided κ a x y d e p q = (p .0 ∙ sym (q .0), p .1 ∙ sym (q .1))
-
-pub step-line-decided : DecidesMemory step-line.Post (λ κ d. now (d .0))
-step-line-decided κ a x y d e p q = (p .0 ∙ sym (q .0), p .1 ∙ sym (q .1))
-
 pub answer-line-decided : DecidesMemory answer-line.Post (λ κ d. now (d .0))
 answer-line-decided κ a x y d e p q = (p .0 ∙ sym (q .0), p .1 ∙ sym (q .1))
+
+pub start-decided : Decides start.Post
+start-decided κ a x y d e p q = p ∙ sym q
+
+-- the buffer is the third parameter, and the second
+pub feed-decided : DecidesMemory feed.Post (λ κ d. now (d .1 .1 .0))
+feed-decided κ a x y d e p q = (p .0 ∙ sym (q .0), p .1 ∙ sym (q .1))
+
+pub finish-decided : DecidesMemory finish.Post (λ κ d. now (d .1 .0))
+finish-decided κ a x y d e p q = (p .0 ∙ sym (q .0), p .1 ∙ sym (q .1))

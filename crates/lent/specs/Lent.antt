@@ -1,11 +1,10 @@
 -- A table that is kept as its image, in octets that the caller lends: the line at an image (`stepOn`, `leftOn`), and what the code does
--- octet by octet, which asks nothing of an image but its length. `proofs/Kept.antt` shows that at the image of a sound table the two agree.
+-- octet by octet, for any octets. `proofs/Kept.antt` shows that at the image of a sound table the two agree.
 -- Assumes nothing.
 use mathlib.Core.Bool.{cond}
 use mathlib.Core.List.{List}
 use Prim.Native.Nat.{ℕ}
 use lib.Dec.{eqb}
-use lib.ListN.{length}
 use Rattle.table.specs.Places.{recordAt}
 use Rattle.table.specs.Ranks.{nextWaiting}
 use Rattle.events.specs.declared.Event.{Event}
@@ -20,7 +19,6 @@ use Rattle.step.specs.declared.aim.Aim.{Aim}
 use Rattle.step.specs.declared.aim.Aim.the-variants.{To, Nowhere}
 use Rattle.step.specs.Aim.{aim}
 use Rattle.step.specs.Step.{stepAny}
-use Rattle.lines.specs.EventLine.{readLine}
 use Rattle.lent.specs.LineStep.{lineStep}
 use Rattle.image.specs.declared.ReadImage.{ReadImage}
 use Rattle.image.specs.Image.{imageOf, placePut, tableFrom, readImage}
@@ -50,14 +48,7 @@ leftFor image e (To i) = writtenAt image i (acted e i (recordAt (tableFrom image
 
 -- the event at the image
 abbrev pub eventAnswer : List ℕ → Event → Answer
-eventAnswer image e = cond (eqb (length image) 2112) (stepAny (tableFrom image) e .answer) (saying 25 NoMessage)
+eventAnswer image e = stepAny (tableFrom image) e .answer
 
 abbrev pub eventImage : List ℕ → Event → List ℕ
-eventImage image e = cond (eqb (length image) 2112) (leftFor image e (aim (nextWaiting (tableFrom image)) (ruleOf (e .kind)) (tableFrom image) e)) image
-
--- the line at the image
-abbrev pub lineAnswer : List ℕ → List ℕ → Answer
-lineAnswer image line = cond (eqb (readLine line .number) 0) (eventAnswer image (readLine line .event)) (saying (readLine line .number) NoMessage)
-
-abbrev pub lineImage : List ℕ → List ℕ → List ℕ
-lineImage image line = cond (eqb (readLine line .number) 0) (eventImage image (readLine line .event)) image
+eventImage image e = leftFor image e (aim (nextWaiting (tableFrom image)) (ruleOf (e .kind)) (tableFrom image) e)

@@ -1,2 +1,5 @@
 pub mod LineStep
 pub mod Lent
+pub mod Stream
+pub mod Session
+pub mod Keep

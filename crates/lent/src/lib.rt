@@ -6,7 +6,8 @@ mod octets;
 pub mod places;
 mod ranks;
 mod search;
-pub mod sound;
+pub mod session;
+mod sound;
 pub mod status;
 mod words;
 
@@ -34,7 +35,7 @@ ghost use Rattle.table.specs.Ranks.{nextWaiting};
 ghost use Rattle.step.specs.Aim.{aimAt, isProposed, chosen, aimNew, aim};
 ghost use Rattle.step.specs.Step.{carriedOut, stepAny, stepOf};
 ghost use Rattle.image.specs.Image.{tableFrom, isRead};
-ghost use Rattle.lent.specs.Lent.{stepOn, leftOn, writtenAt, leftFor, eventAnswer, eventImage, lineAnswer, lineImage};
+ghost use Rattle.lent.specs.Lent.{stepOn, leftOn, writtenAt, leftFor};
 
 // The event at the index that it is for.
 fn act_at(image: &mut [u8], i: usize, e: Event) -> Answer
@@ -104,6 +105,7 @@ fn act_new(image: &mut [u8], d: Side, e: Event) -> Answer
     }
 }
 
+// An event at an image. Only its length is asked for: whether it is one of a sound table is for the caller to know.
 fn act_on(image: &mut [u8], e: Event) -> Answer
     requires { ⌜ length (now image) ≡ 2112 ⌝ }
     ensures { λ r. ⌜ (r ≡ stepAny (tableFrom (now (image .entry))) e .answer) × (now (image .exit) ≡ leftFor (now (image .entry)) e (aim (nextWaiting (tableFrom (now (image .entry)))) (ruleOf (e .kind)) (tableFrom (now (image .entry))) e)) ⌝ }
@@ -123,16 +125,6 @@ fn act_on(image: &mut [u8], e: Event) -> Answer
     }
 }
 
-// An event at an image. Only the length of the image is looked at: whether it is one of a sound table is `is_read`'s to say.
-pub fn step_event(image: &mut [u8], e: Event) -> Answer
-    ensures { λ r. ⌜ (r ≡ eventAnswer (now (image .entry)) e) × (now (image .exit) ≡ eventImage (now (image .entry)) e) ⌝ }
-{
-    if image.len() != 2112 {
-        return answers::only_number(25);
-    }
-    act_on(image, e)
-}
-
 // THE STEP. Any table and any event have an answer: a table that is not sound is refused by 25, and the event then by 1 to 10
 // or not at all.
 pub fn single_step(t: Table, e: Event) -> Step
@@ -140,7 +132,7 @@ pub fn single_step(t: Table, e: Event) -> Step
 {
     let mut octets = places::octets_of(t);
     if sound::places_sound(&octets) {
-        let answer = step_event(&mut octets, e);
+        let answer = act_on(&mut octets, e);
         Step {
             table: places::read_places(&octets),
             answer,
@@ -153,14 +145,15 @@ pub fn single_step(t: Table, e: Event) -> Step
     }
 }
 
-// A line at an image, in the same way. Where the image is one of a sound table, this is the step of the line at its table.
-pub fn step_line(image: &mut [u8], line: &[u8]) -> Answer
-    ensures { λ r. ⌜ (r ≡ lineAnswer (now (image .entry)) (now (line .entry))) × (now (image .exit) ≡ lineImage (now (image .entry)) (now (line .entry))) × (isRead (now (image .entry)) ≡ true → (lineAnswer (now (image .entry)) (now (line .entry)) ≡ stepOn (now (image .entry)) (now (line .entry)) .answer) × (lineImage (now (image .entry)) (now (line .entry)) ≡ leftOn (now (image .entry)) (now (line .entry)))) ⌝ }
+// A line at the image of a sound table.
+pub(crate) fn step_line(image: &mut [u8], line: &[u8]) -> Answer
+    requires { ⌜ isRead (now image) ≡ true ⌝ }
+    ensures { λ r. ⌜ (r ≡ stepOn (now (image .entry)) (now (line .entry)) .answer) × (now (image .exit) ≡ leftOn (now (image .entry)) (now (line .entry))) ⌝ }
 {
     let read = lines::read_event(line);
     if read.number == 0 {
         let e = read.event;
-        step_event(image, e)
+        act_on(image, e)
     } else {
         answers::only_number(read.number)
     }

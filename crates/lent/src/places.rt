@@ -9,9 +9,9 @@ use table::Table;
 ghost use mathlib.Core.Path.{_≡_};
 ghost use Prim.Native.Nat.{_<_};
 ghost use lib.ListN.{length};
-ghost use Rattle.table.specs.Places.{emptyTable};
+ghost use Rattle.table.specs.Places.{emptyTable, recordAt};
 ghost use Rattle.table.specs.Sound.{isSound};
-ghost use Rattle.image.specs.Image.{Fit, imageOf, writtenNumber, written, placeRead, tableFrom, readImage, placePut};
+ghost use Rattle.image.specs.Image.{Fit, imageOf, writtenNumber, written, tableFrom, readImage, placePut};
 
 fn refuse() -> ReadImage
     ensures { λ r. ⌜ r ≡ record { number = 25; table = emptyTable } ⌝ }
@@ -97,30 +97,20 @@ pub fn write_image(t: Table, out: &mut [u8]) -> u8
     0
 }
 
-// Puts a record anew at a place, given by its index: its octets, and the ranks of its side where a call begins or ends; does nothing where there
-// is no such place.
+// Puts a record anew at a place, given by its index: its octets, and the ranks of its side where a call begins or ends.
 pub(crate) fn put_place(i: usize, r: Record, image: &mut [u8])
+    requires { ⌜ (i < 96) × (length (now image) ≡ 2112) ⌝ }
     ensures { λ _. ⌜ now (image .exit) ≡ placePut i r (now (image .entry)) ⌝ }
 {
-    if image.len() == 2112 {
-        if i < Table::PLACES {
-            let after = r.state;
-            ranks::rerank(image, i, after);
-            octets::put_record(image, i * 22, r);
-        }
-    }
+    let after = r.state;
+    ranks::rerank(image, i, after);
+    octets::put_record(image, i * 22, r);
 }
 
-// The record of one place, given by its index; the free record where there is no such place.
+// The record of one place, given by its index.
 pub(crate) fn read_place(i: usize, image: &[u8]) -> Record
-    ensures { λ r. ⌜ r ≡ placeRead i (now (image .entry)) ⌝ }
+    requires { ⌜ (i < 96) × (length (now image) ≡ 2112) ⌝ }
+    ensures { λ r. ⌜ r ≡ recordAt (tableFrom (now (image .entry))) i ⌝ }
 {
-    if image.len() != 2112 {
-        return Record::free();
-    }
-    if i < Table::PLACES {
-        octets::read_record(image, i * 22)
-    } else {
-        Record::free()
-    }
+    octets::read_record(image, i * 22)
 }

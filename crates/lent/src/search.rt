@@ -13,7 +13,7 @@ ghost use lib.ListN.{length};
 ghost use Rattle.table.specs.declared.Found.the-variants.{At};
 ghost use Rattle.table.specs.Search.{holds, findCall, lowestIn};
 ghost use Rattle.table.specs.Ranks.{earlier, nextWaiting};
-ghost use Rattle.image.specs.Image.{recordFrom, tableFrom, foundIn, lowestFound, nextFound};
+ghost use Rattle.image.specs.Image.{recordFrom, tableFrom};
 
 // The call is compared before the state: it hardly ever agrees, and the processor can count on that.
 fn holds_call(image: &[u8], i: usize, call: &[u8]) -> bool
@@ -41,18 +41,16 @@ fn call_among(image: &[u8], call: &[u8]) -> Found
     Found::Nothing
 }
 
-// The index of the place that holds a call; nothing in what is not as long as an image.
+// The index of the place that holds a call.
 pub(crate) fn find_call(image: &[u8], call: [u8; 16]) -> Found
-    ensures { λ r. ⌜ r ≡ foundIn (now (image .entry)) call ⌝ }
+    requires { ⌜ length (now image) ≡ 2112 ⌝ }
+    ensures { λ r. ⌜ r ≡ findCall (tableFrom (now (image .entry))) call ⌝ }
 {
-    if image.len() == 2112 {
-        call_among(image, &call)
-    } else {
-        Found::Nothing
-    }
+    call_among(image, &call)
 }
 
-fn lowest_among(image: &[u8], a: Side, s: State) -> Found
+// The lowest index of a side in a state.
+pub(crate) fn lowest_in(image: &[u8], a: Side, s: State) -> Found
     requires { ⌜ length (now image) ≡ 2112 ⌝ }
     ensures { λ r. ⌜ r ≡ lowestIn (tableFrom (now (image .entry))) a s ⌝ }
 {
@@ -65,17 +63,6 @@ fn lowest_among(image: &[u8], a: Side, s: State) -> Found
         i += 1;
     }
     Found::Nothing
-}
-
-// The lowest index of a side in a state; nothing in what is not as long as an image.
-pub(crate) fn lowest_in(image: &[u8], a: Side, s: State) -> Found
-    ensures { λ r. ⌜ r ≡ lowestFound (now (image .entry)) a s ⌝ }
-{
-    if image.len() == 2112 {
-        lowest_among(image, a, s)
-    } else {
-        Found::Nothing
-    }
 }
 
 // Of place n and the one that was found before it: the one that came first.
@@ -95,7 +82,8 @@ fn earlier_of(image: &[u8], n: usize, f: Found) -> Found
     }
 }
 
-fn next_among(image: &[u8], a: Side) -> Found
+// The waiting place of a side that is served.
+pub(crate) fn next_waiting(image: &[u8], a: Side) -> Found
     requires { ⌜ length (now image) ≡ 2112 ⌝ }
     ensures { λ r. ⌜ r ≡ nextWaiting (tableFrom (now (image .entry))) a ⌝ }
 {
@@ -110,15 +98,4 @@ fn next_among(image: &[u8], a: Side) -> Found
         i += 1;
     }
     found
-}
-
-// The waiting place of a side that is served; nothing in what is not as long as an image.
-pub(crate) fn next_waiting(image: &[u8], a: Side) -> Found
-    ensures { λ r. ⌜ r ≡ nextFound (now (image .entry)) a ⌝ }
-{
-    if image.len() == 2112 {
-        next_among(image, a)
-    } else {
-        Found::Nothing
-    }
 }

@@ -20,8 +20,8 @@ use Rattle.table.specs.declared.Table.{Table}
 use Rattle.table.specs.declared.Found.{Found}
 use Rattle.table.specs.declared.Found.the-variants.{At, Nothing}
 use Rattle.table.specs.Places.{stateNumber, sameState, isFree, sameSide, sideOf, isOf, sideAt, placeAt, recordAt}
-use Rattle.table.specs.Search.{holds, isAt, findCall, lowestIn}
-use Rattle.table.proofs.Searches.{found-passes, none-found}
+use Rattle.table.specs.Search.{holds, findCall, lowestIn}
+use Rattle.table.proofs.Searches.{found-passes, none-found, lowest-passes}
 use Rattle.table.proofs.RankLaws.{side-is, found-below}
 use Rattle.events.specs.declared.Event.{Event}
 use Rattle.events.specs.declared.rule.Signal.{Signal}
@@ -115,7 +115,7 @@ module _ (t : Table) (size : length (t .places) ≡ 96) where
           let free : isFree (recordAt t (indexOf (p .0)) .state) ≡ true = and-right (isOf d (sideOf p)) _ q in
           (rw same at (s .0), rw same at (s .1), rw same at free)
       by false q g =
-          let f = found-passes t size (isAt d Free) i g in
+          let f = lowest-passes t size d Free i g in
           (f .0, side-is (sideAt i) d (and-left (sameSide (sideAt i) d) _ (f .1)), state-free (recordAt t i .state) (and-right (sameSide (sideAt i) d) _ (f .1)))
 
   pub aim-new : (d : Side) (e : Event) (i : ℕ) → aimNew d t e ≡ To i → Room d (e .call) i

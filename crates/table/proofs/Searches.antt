@@ -7,12 +7,14 @@ use Prim.Native.Nat.{ℕ, zero, suc, _+_, _<_}
 use native.Mathlib.Nat.{add-zero, zero-add, not-suc-le-zero, le-of-suc-le-suc}
 use native.Mathlib.Omega.{arith}
 use lib.ListN.{length, getD}
+use Rattle.table.specs.declared.State.{State}
+use Rattle.table.specs.declared.Side.{Side}
 use Rattle.table.specs.declared.Record.{Record}
 use Rattle.table.specs.declared.Table.{Table}
 use Rattle.table.specs.declared.Found.{Found}
 use Rattle.table.specs.declared.Found.the-variants.{At, Nothing}
 use Rattle.table.specs.Places.{blank, recordAt}
-use Rattle.table.specs.Search.{lowest}
+use Rattle.table.specs.Search.{isAt, lowest, lowestIn}
 
 -- the k-th record of a list, which is counted from i, is the one found
 pub record Hit (p : ℕ → Record → Bool) (i : ℕ) (l : List Record) (j : ℕ) : Type 0 where
@@ -61,3 +63,7 @@ module _ (t : Table) (size : length (t .places) ≡ 96) (p : ℕ → Record → 
       by : (x : Found) → lowest p 0 (t .places) ≡ x → x ≡ Nothing
       by Nothing e = refl
       by (At j) e = let h = found-passes j e in absurd (let z : _≡_ {A = Bool} true false = sym (h .1) ∙ fails j (h .0) in let y : _≡_ {A = ℕ} 0 1 = cc z in omega arith)
+
+-- the lowest place of a side in a state is one
+pub lowest-passes : (t : Table) → length (t .places) ≡ 96 → (a : Side) (s : State) (i : ℕ) → lowestIn t a s ≡ At i → (i < 96) × (isAt a s i (recordAt t i) ≡ true)
+lowest-passes t size a s i e = found-passes t size (isAt a s) i e

@@ -1,9 +1,8 @@
--- The record that is read is that of the place (`place-read`); what the event leaves there is written where its number is 0.
+-- What the event leaves there is written where its number is 0.
 -- Assumes nothing.
 use mathlib.Core.Path.{ap, _∙_}
 use borrow.Author.Tests.{eq-eqb, ne-eqb}
 use Rattle.events.specs.Act.{acted}
-use Rattle.image.proofs.Looks.{place-read}
 use borrow.Author.Needs.{needs}
 use Rattle.lent.proofs.act_at.Statement.{statement}
 use Rattle.lent.proofs.act_at.Tie as tie
@@ -25,7 +24,7 @@ returns c =
     let w = c .before .before in
     let k = w .before .before .before .before .before .before in
     let s = k .before .before .before .before .args in
-    let same = k .act .ensures ∙ ap (acted (s .e) (s .i)) (k .before .read-place .ensures ∙ place-read (s .image .now) (s .i) (search needs) (search needs)) in (
+    let same = k .act .ensures ∙ ap (acted (s .e) (s .i)) (k .before .read-place .ensures) in (
       ap (λ a. a .answer) same,
       w .put-place .ensures ∙ rw (← same, eq-eqb _ 0 (w .before .before .before .if1 .taken)),
     )
@@ -37,7 +36,7 @@ returns-2 : tie.Need-returns-2
 returns-2 c =
     let k = c .before .before .before in
     let s = k .before .before .before .before .args in
-    let same = k .act .ensures ∙ ap (acted (s .e) (s .i)) (k .before .read-place .ensures ∙ place-read (s .image .now) (s .i) (search needs) (search needs)) in
+    let same = k .act .ensures ∙ ap (acted (s .e) (s .i)) (k .before .read-place .ensures) in
     (ap (λ a. a .answer) same, rw (← same, ne-eqb _ 0 (c .if1 .left)))
 
 pub act-at-spec : {M : Type 1} → statement M

@@ -2,7 +2,6 @@
 -- Assumes nothing.
 use mathlib.Core.Path.{sym, refl, _∙_}
 use Rattle.image.proofs.Round.{fit-from}
-use Rattle.image.proofs.Looks.{found-in}
 use Rattle.image.specs.Image.{tableFrom}
 use Rattle.step.proofs.Aims.{chosen-room}
 use borrow.Author.Needs.{needs}
@@ -36,8 +35,7 @@ same-length c = search needs
 returns : tie.Need-returns
 returns c =
     let k = c .before .before .before in
-    let z = k .before .before .before .before in
-    let at = sym (found-in (z .args .image .now) (z .pre) (z .args .e .call)) ∙ sym (k .find-call .ensures) ∙ c .before .enum-told .given .1 in
+    let at = sym (k .find-call .ensures) ∙ c .before .enum-told .given .1 in
     rw at (c .decline .ensures, refl)
 
 same-length-2 : tie.Need-same-length-2
@@ -49,8 +47,7 @@ returns-2 c =
     let h = a .before .before in
     let m = h .before .before .before in
     let k = m .before .before in
-    let z = k .before .before .before .before in
-    let at = sym (found-in (z .args .image .now) (z .pre) (z .args .e .call)) ∙ sym (k .find-call .ensures) ∙ m .enum-told2 .given .1 in
+    let at = sym (k .find-call .ensures) ∙ m .enum-told2 .given .1 in
     rw (at, ← h .choose .ensures) (a .act-found .ensures)
 
 pub act-new-spec : {M : Type 1} → statement M

@@ -7,7 +7,6 @@ use Rattle.table.proofs.Searches.{found-passes}
 use Rattle.events.specs.Rule.{ruleOf}
 use Rattle.image.specs.Image.{tableFrom}
 use Rattle.image.proofs.Round.{fit-from}
-use Rattle.image.proofs.Looks.{found-in, next-found}
 use Rattle.table.specs.Ranks.{nextWaiting}
 use Rattle.table.proofs.RankLaws.{found-below}
 use Rattle.step.specs.Aim.{aimFor}
@@ -30,8 +29,7 @@ act-found-requires c κs =
     let f = c .before in
     let z = f .before .before .before .before .before .before .before in
     let s = z .args .image .now in
-    let found = f .find-call .ensures ∙ found-in s (z .pre) (z .args .e .call) in
-    (z .pre, λ i q. found-passes (tableFrom s) (fit-from s (z .pre) .size) (λ j. holds (z .args .e .call)) i (sym found ∙ q) .0)
+    (z .pre, λ i q. found-passes (tableFrom s) (fit-from s (z .pre) .size) (λ j. holds (z .args .e .call)) i (sym (f .find-call .ensures) ∙ q) .0)
 
 enum-known-a : tie.Need-enum-known-a
 enum-known-a c = search needs
@@ -45,8 +43,7 @@ act-found-requires-2 c κs =
     let z = f .before .before .before .before .before .before .before in
     let s = z .args .image .now in
     let a = f .before .before .before .a .given .0 .0 in
-    let found = f .next-waiting .ensures ∙ next-found s (z .pre) a in
-    (z .pre, λ i q. found-below (tableFrom s) a 96 i (sym found ∙ q))
+    (z .pre, λ i q. found-below (tableFrom s) a 96 i (sym (f .next-waiting .ensures) ∙ q))
 
 enum-known-d : tie.Need-enum-known-d
 enum-known-d c = search needs
@@ -72,9 +69,8 @@ returns c =
     let z = k .before .before in
     let s = z .args .image .now in
     let t : Table = tableFrom s in
-    let found = f .find-call .ensures ∙ found-in s (z .pre) (z .args .e .call) in
     let aimed = aim-sought (nextWaiting t) t (z .args .e) (ruleOf (z .args .e .kind)) ∙ ap (aimFor (nextWaiting t) t (z .args .e)) (sym (k .sought-of .ensures) ∙ m .enum-told .given .1) in
-    rw (aimed, ← found) (r .act-found .ensures)
+    rw (aimed, ← f .find-call .ensures) (r .act-found .ensures)
 
 same-length-2 : tie.Need-same-length-2
 same-length-2 c = search needs
@@ -89,9 +85,8 @@ returns-2 c =
     let s = z .args .image .now in
     let t : Table = tableFrom s in
     let a = m .a .given .0 .0 in
-    let found = f .next-waiting .ensures ∙ next-found s (z .pre) a in
     let aimed = aim-sought (nextWaiting t) t (z .args .e) (ruleOf (z .args .e .kind)) ∙ ap (aimFor (nextWaiting t) t (z .args .e)) (sym (k .sought-of .ensures) ∙ m .a .given .1) in
-    rw (aimed, ← found) (r .act-found2 .ensures)
+    rw (aimed, ← f .next-waiting .ensures) (r .act-found2 .ensures)
 
 same-length-3 : tie.Need-same-length-3
 same-length-3 c = search needs

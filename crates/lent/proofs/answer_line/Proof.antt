@@ -9,7 +9,7 @@ is-read-requires : tie.Need-is-read-requires
 is-read-requires c κs = search needs
 
 step-line-requires : tie.Need-step-line-requires
-step-line-requires c κs = search needs
+step-line-requires c κs = sym (c .before .before .is-read .ensures) ∙ c .before .if1 .taken
 
 only-number-requires : tie.Need-only-number-requires
 only-number-requires c κs = search needs
@@ -20,9 +20,7 @@ same-length c = search needs
 returns : tie.Need-returns
 returns c =
     let r = c .before .before in
-    let i = r .before .before in
-    let kept = r .step-line .ensures .2 (sym (i .before .is-read .ensures) ∙ i .if1 .taken) in
-    (r .step-line .ensures .0 ∙ kept .0, r .step-line .ensures .1 ∙ kept .1)
+    r .step-line .ensures
 
 same-length-2 : tie.Need-same-length-2
 same-length-2 c = search needs

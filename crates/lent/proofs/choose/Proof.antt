@@ -2,10 +2,8 @@
 -- Assumes nothing.
 use mathlib.Core.Path.{sym, _∙_}
 use Rattle.laws.proofs.Bools.{and-left}
-use Rattle.table.specs.declared.State.the-variants.{Free}
 use Rattle.table.specs.Places.{isOf, sideOf}
 use Rattle.step.proofs.Aims.{number-of-side, less-one}
-use Rattle.image.proofs.Looks.{lowest-found}
 use borrow.Author.Needs.{needs}
 use Rattle.lent.proofs.choose.Statement.{statement}
 use Rattle.lent.proofs.choose.Tie as tie
@@ -33,9 +31,8 @@ returns c =
 
 returns-2 : tie.Need-returns-2
 returns-2 c =
-    let z = c .before .before .before .before in
     let no = sym (c .before .before .is-proposed .ensures) ∙ c .before .if1 .left in
-    rw no (c .lowest-in .ensures ∙ lowest-found (z .args .image .now) (z .pre) (z .args .d) Free)
+    rw no (c .lowest-in .ensures)
 
 pub choose-spec : {M : Type 1} → statement M
 choose-spec =

@@ -5,7 +5,6 @@ use mathlib.Core.Bool.{true, false}
 use native.Mathlib.Omega.{arith}
 use Rattle.table.specs.Places.{isFree, isOf, sideOf}
 use Rattle.step.proofs.Aims.{number-of-side, less-one}
-use Rattle.image.proofs.Looks.{place-read}
 use borrow.Author.Needs.{needs}
 use Rattle.lent.proofs.is_proposed.Statement.{statement}
 use Rattle.lent.proofs.is_proposed.Tie as tie
@@ -26,7 +25,11 @@ cast-i : tie.Need-cast-i
 cast-i c = search needs
 
 read-place-requires : tie.Need-read-place-requires
-read-place-requires c κs = search needs
+read-place-requires c κs =
+    let z = c .before .before .before .before .before in
+    let s = z .args in
+    let yes : isOf (s .d) (sideOf (s .p)) ≡ true = cc in
+    (omega (arith, number-of-side (s .d) (s .p .0) yes), z .pre)
 
 is-free-requires : tie.Need-is-free-requires
 is-free-requires c κs = search needs
@@ -37,7 +40,7 @@ returns c =
     let s = z .args in
     let yes : isOf (s .d) (sideOf (s .p)) ≡ true = cc in
     let h = number-of-side (s .d) (s .p .0) yes in
-    rw (yes, ← less-one (s .p .0) (h .0)) (c .is-free .ensures ∙ ap (λ r. isFree (r .state)) (c .before .read-place .ensures ∙ place-read (s .image .now) _ (z .pre) (omega (arith, h))))
+    rw (yes, ← less-one (s .p .0) (h .0)) (c .is-free .ensures ∙ ap (λ r. isFree (r .state)) (c .before .read-place .ensures))
 
 returns-2 : tie.Need-returns-2
 returns-2 c =

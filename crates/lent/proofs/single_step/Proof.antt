@@ -19,11 +19,11 @@ slice-aggregate-places-sound c = search needs
 places-sound-requires : tie.Need-places-sound-requires
 places-sound-requires c κs = search needs
 
-slice-aggregate-step-event : tie.Need-slice-aggregate-step-event
-slice-aggregate-step-event c = search needs
+slice-aggregate-act-on : tie.Need-slice-aggregate-act-on
+slice-aggregate-act-on c = search needs
 
-step-event-requires : tie.Need-step-event-requires
-step-event-requires c κs = search needs
+act-on-requires : tie.Need-act-on-requires
+act-on-requires c κs = search needs
 
 slice-aggregate-read-places : tie.Need-slice-aggregate-read-places
 slice-aggregate-read-places c = search needs
@@ -49,7 +49,7 @@ returns c =
     let o = sound .before .before .before in
     let start = o .before in
     let there = o .octets-of .ensures in
-    rw (c .read-places .ensures, stepped .step-event .ensures .0, stepped .step-event .ensures .1, there .0)
+    rw (c .read-places .ensures, stepped .act-on .ensures .0, stepped .act-on .ensures .1, there .0)
     (step-back (start .args .t) (there .1) (sym (tested (sound .before)) ∙ sound .if1 .taken) (start .args .e) (long start))
 
 returns-2 : tie.Need-returns-2
@@ -62,8 +62,8 @@ single-step-spec =
     octets-of-requires
     slice-aggregate-places-sound
     places-sound-requires
-    slice-aggregate-step-event
-    step-event-requires
+    slice-aggregate-act-on
+    act-on-requires
     slice-aggregate-read-places
     read-places-requires
     decline-requires

@@ -1,18 +1,147 @@
--- The test of the length is the definition's.
+-- What is found below i is what the definition finds there. A place that does not wait changes nothing, and places of the other side do not wait
+-- on this one (`earliest-rest`).
 -- Assumes nothing.
+use mathlib.Core.Path.{_≡_, sym, ap, ap₂, _∙_}
+use mathlib.Core.Bool.{Bool, false, cond}
+use mathlib.Core.Logic.{inl, inr, ⊎-elim}
+use Prim.Native.Nat.{ℕ, _+_, _-_, _≤_}
+use native.Mathlib.Omega.{arith}
+use lib.Dec.{eqb}
 use borrow.Author.Tests.{eq-eqb, ne-eqb}
+use Rattle.table.specs.declared.Side.{Side}
+use Rattle.table.specs.declared.Table.{Table}
+use Rattle.table.specs.declared.Found.{Found}
+use Rattle.table.specs.Places.{stateNumber, waitingOn, sideAt, recordAt}
+use Rattle.table.specs.Search.{isAt}
+use Rattle.table.specs.Ranks.{earlier, earliest}
+use Rattle.table.proofs.RankLaws.{other-side, found-below, earliest-none, earliest-more, earliest-rest}
+use Rattle.image.specs.Image.{tableFrom}
+use Rattle.image.specs.Quick.{stateAt, firstOf, endOf}
+use Rattle.image.proofs.Sides.{end-inside, side-inside, side-first, side-outside, waits-octet}
 use borrow.Author.Needs.{needs}
 use Rattle.lent.proofs.search.next_waiting.Statement.{statement}
 use Rattle.lent.proofs.search.next_waiting.Tie as tie
 
-next-among-requires : tie.Need-next-among-requires
-next-among-requires c κs = search needs
+abbrev Inv-loop : tie.InvT-loop
+Inv-loop image s found₀ i₀ end found i = (i₀ ≤ i) × (i ≤ end) × (found ≡ earliest (tableFrom image) (sideAt i₀) i)
 
-returns : tie.Need-returns
-returns c = rw (eq-eqb _ _ (c .before .if1 .taken)) (c .next-among .ensures)
+abbrev μ-loop : tie.MeasureT-loop
+μ-loop image s found₀ i₀ end found i = end - i
 
-returns-2 : tie.Need-returns-2
-returns-2 c = rw (ne-eqb _ _ (c .if1 .left))
+-- no place of the other side waits on this one
+idle : (t : Table) (a : Side) (j : ℕ) → (sideAt j ≡ a → ⊥) → isAt a (waitingOn a) j (recordAt t j) ≡ false
+idle t a j other = rw (other-side (sideAt j) a other)
+
+-- the places that are looked at: from the first of the side to its last
+module _ (c : tie.At-loop Inv-loop μ-loop) where
+  abbrev side : Side
+  side = c .before .before .before .before .before .before .args .a
+
+  first : c .before .before .first-of .result ≡ firstOf side
+  first = c .before .before .first-of .ensures
+
+  room : (c .before .end-of .result ≡ endOf side) × (endOf side ≤ 96)
+  room = (c .before .end-of .ensures, end-inside side .1)
+
+  -- what is found so far, by the side
+  so-far : c .loop .found ≡ earliest (tableFrom (c .before .before .before .before .before .before .args .image .now)) side (c .loop .i)
+  so-far =
+      c .loop .inv .2
+      ∙ ap (λ (a : Side). earliest (tableFrom (c .before .before .before .before .before .before .args .image .now)) a (c .loop .i)) (ap sideAt first ∙ side-first side)
+
+waiting-requires : tie.Need-waiting-requires Inv-loop μ-loop
+waiting-requires c κs = search needs
+
+number-requires : tie.Need-number-requires Inv-loop μ-loop
+number-requires c κs = search needs
+
+first-of-requires : tie.Need-first-of-requires Inv-loop μ-loop
+first-of-requires c κs = search needs
+
+end-of-requires : tie.Need-end-of-requires Inv-loop μ-loop
+end-of-requires c κs = search needs
+
+loop-holds : tie.Need-loop-holds Inv-loop μ-loop
+loop-holds c =
+    let s = c .before .before .before .before .before .args in
+    let t = tableFrom (s .image .now) in
+    let first = c .before .first-of .ensures in
+    let none = earliest-rest t (s .a) 0 (firstOf (s .a)) (omega arith) (λ j low high. idle t (s .a) j (side-outside (s .a) j (omega (arith, high, end-inside (s .a))) (inl high))) in (
+      omega arith,
+      omega (arith, first, c .end-of .ensures, end-inside (s .a) .0),
+      sym (ap₂ (earliest t) (ap sideAt first ∙ side-first (s .a)) first ∙ none ∙ earliest-none t (s .a)),
+    )
+
+mul-if1 : tie.Need-mul-if1 Inv-loop μ-loop
+mul-if1 c = omega (arith, room (c .before))
+
+shared-slice-read-if1 : tie.Need-shared-slice-read-if1 Inv-loop μ-loop
+shared-slice-read-if1 c = omega (arith, room (c .before .before))
+
+earlier-of-requires : tie.Need-earlier-of-requires Inv-loop μ-loop
+earlier-of-requires c κs =
+    let k = c .before .before .before in
+    let s = k .before .before .before .before .before .before in
+    let high = room k in (
+      omega (arith, high),
+      s .pre,
+      λ i e. let low = found-below (tableFrom (s .args .image .now)) (s .args .a) (k .loop .i) i (sym (so-far k) ∙ e) in omega (arith, low, high),
+    )
+
+add-i : tie.Need-add-i Inv-loop μ-loop
+add-i c = omega (arith, room (c .before .before .before))
+
+loop-less : tie.Need-loop-less Inv-loop μ-loop
+loop-less c = omega (arith, room (c .before .before .before))
+
+loop-again : tie.Need-loop-again Inv-loop μ-loop
+loop-again c =
+    let k = c .before .before .before in
+    let n = k .before .before .before in
+    let s = n .before .before .before .args in
+    let t = tableFrom (s .image .now) in
+    let i = k .loop .i in
+    let high = room k in
+    let before = earliest t (s .a) i in
+    let inside = side-inside (s .a) i (omega (arith, first k)) (omega (arith, high)) in
+    let number = n .number .ensures ∙ ap stateNumber (n .before .waiting .ensures) in
+    let test : isAt (s .a) (waitingOn (s .a)) i (recordAt t i) ≡ eqb (stateAt (s .image .now) i) (n .number .result) =
+    waits-octet (s .image .now) (s .a) i (omega (arith, high)) inside ∙ ap (eqb (stateAt (s .image .now) i)) (sym number) in
+    let by-first = ap (λ (a : Side). earliest t a (i + 1)) (sym (ap sideAt (first k) ∙ side-first (s .a))) in
+    let by : Bool → Found = λ b. cond b (earlier t i before) before in (
+      omega arith,
+      omega arith,
+      ⊎-elim
+          (λ w. w .2 ∙ w .1 .ensures ∙ ap (earlier t i) (so-far k) ∙ ap by (sym (test ∙ eq-eqb _ _ (w .0 .taken))) ∙ sym (earliest-more t (s .a) i) ∙ by-first)
+          (λ w. w .1 ∙ so-far k ∙ ap by (sym (test ∙ ne-eqb _ _ (w .0 .left))) ∙ sym (earliest-more t (s .a) i) ∙ by-first)
+          (c .if1 .came),
+    )
+
+returns : tie.Need-returns Inv-loop μ-loop
+returns c =
+    let k = c .before in
+    let s = k .before .before .before .before .before .before .args in
+    let t = tableFrom (s .image .now) in
+    let high = room k in
+    let all : k .loop .i ≡ endOf (s .a) = omega (arith, high) in
+    let rest = earliest-rest t (s .a) (endOf (s .a)) 96 (high .1) (λ j low less. idle t (s .a) j (side-outside (s .a) j less (inr low))) in
+    so-far k ∙ ap (earliest t (s .a)) all ∙ sym rest
 
 pub next-waiting-spec : {M : Type 1} → statement M
-next-waiting-spec = tie.close (tie.spec next-among-requires returns returns-2)
+next-waiting-spec =
+    tie.close
+    (tie.spec
+    Inv-loop
+    μ-loop
+    waiting-requires
+    number-requires
+    first-of-requires
+    end-of-requires
+    loop-holds
+    mul-if1
+    shared-slice-read-if1
+    earlier-of-requires
+    add-i
+    loop-less
+    loop-again
+    returns)

@@ -4,10 +4,10 @@ use mathlib.Core.Path.{_≡_, refl}
 use Prim.Native.Nat.{_+_, _-_, _≤_}
 use native.Mathlib.Omega.{arith}
 use lib.ListN.{length, drop}
-use Rattle.session.specs.Keep.{untilFeed}
-use Rattle.session.proofs.KeepLaws.{feed-until, more-until, end-until}
-use Rattle.session.proofs.find_feed.Statement.{statement}
-use Rattle.session.proofs.find_feed.Tie as tie
+use Rattle.lent.specs.Keep.{untilFeed}
+use Rattle.lent.proofs.KeepLaws.{feed-until, more-until, end-until}
+use Rattle.lent.proofs.session.find_feed.Statement.{statement}
+use Rattle.lent.proofs.session.find_feed.Tie as tie
 
 abbrev Inv-loop : tie.InvT-loop
 Inv-loop piece from e₀ e = (e ≤ length piece) × (e + untilFeed (drop e piece) ≡ from + untilFeed (drop from piece))

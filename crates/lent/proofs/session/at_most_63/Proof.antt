@@ -1,8 +1,8 @@
 -- The test is the definition's.
 -- Assumes nothing.
 use borrow.Author.Tests.{lt-ltb, le-ltb}
-use Rattle.session.proofs.at_most_63.Statement.{statement}
-use Rattle.session.proofs.at_most_63.Tie as tie
+use Rattle.lent.proofs.session.at_most_63.Statement.{statement}
+use Rattle.lent.proofs.session.at_most_63.Tie as tie
 
 returns : tie.Need-returns
 returns c = rw (lt-ltb _ _ (c .if1 .taken))

@@ -10,10 +10,10 @@ use lib.ListN.{length, take, set, replicate}
 use lib.Seq.{sets}
 use Rattle.step.specs.declared.Step.{Step}
 use Rattle.lines.specs.AnswerLine.{answerLine, answerRoom}
 use Rattle.lent.specs.Lent.{stepOn, leftOn}
-use Rattle.session.specs.declared.Session.{Session}
-use Rattle.session.specs.declared.Fed.{Fed}
-use Rattle.session.specs.Stream.{answersTo}
+use Rattle.lent.specs.declared.session.Session.{Session}
+use Rattle.lent.specs.declared.session.Fed.{Fed}
+use Rattle.lent.specs.Stream.{answersTo}
 
 abbrev pub started : Session
 started = record { image = replicate 2112 0; kept = replicate 63 0; len = 0 }

@@ -10,12 +10,12 @@ use lib.Seq.{sets}
 use borrow.Author.Tests.{le-ltb}
 use Rattle.laws.proofs.Runs.{part-rest}
 use Rattle.lines.specs.AnswerLine.{answerLine, answerRoom}
 use Rattle.lent.specs.Lent.{stepOn}
 use Rattle.lent.proofs.Short.{on-short}
-use Rattle.session.proofs.Ends.{part-sets}
+use Rattle.lent.proofs.Ends.{part-sets}
 use borrow.Author.Needs.{needs}
-use Rattle.session.proofs.end_line.Statement.{statement}
-use Rattle.session.proofs.end_line.Tie as tie
+use Rattle.lent.proofs.session.end_line.Statement.{statement}
+use Rattle.lent.proofs.session.end_line.Tie as tie
 
 answer-at-requires : tie.Need-answer-at-requires
 answer-at-requires c κs = c .before .before .before .before .pre .1

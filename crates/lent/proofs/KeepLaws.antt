@@ -13,9 +13,9 @@ use lib.ListN.{length, take, drop, getD, set, drop-of-length-le, length-drop, le
 use lib.Seq.{sets, drop-cons, getD-drop, drop-drop, take-all, take-nil}
 use borrow.Author.Tests.{eq-eqb, ne-eqb, eqb-true, ltb-true, ltb-false}
 use Rattle.laws.proofs.Runs.{at-step}
-use Rattle.session.specs.declared.Session.{Session}
-use Rattle.session.specs.Session.{restart, endLine, after, said}
-use Rattle.session.specs.Keep.{atMost63, keptFrom, lenFrom, untilFeed}
+use Rattle.lent.specs.declared.session.Session.{Session}
+use Rattle.lent.specs.Session.{restart, endLine, after, said}
+use Rattle.lent.specs.Keep.{atMost63, keptFrom, lenFrom, untilFeed}
 use Rattle.lines.specs.AnswerLine.{answerLine}
 
 -- ---- looking for the feed: one turn, at the octet of index i, and its end

@@ -4,13 +4,13 @@ use mathlib.Core.Path.{_≡_, sym, _∙_}
 use mathlib.Core.Bool.{true, false}
 use native.Mathlib.Omega.{arith}
 use Rattle.image.specs.Image.{isRead}
 use Rattle.lent.proofs.Tables.{stays-read}
 use borrow.Author.Needs.{needs}
-use Rattle.session.proofs.answer_at.Statement.{statement}
-use Rattle.session.proofs.answer_at.Tie as tie
+use Rattle.lent.proofs.session.answer_at.Statement.{statement}
+use Rattle.lent.proofs.session.answer_at.Tie as tie
 
 step-line-requires : tie.Need-step-line-requires
-step-line-requires c κs = search needs
+step-line-requires c κs = sym (c .before .before .before .before .pre) ∙ c .before .if1 .taken
 
 only-number-requires : tie.Need-only-number-requires
 only-number-requires c κs = search needs
@@ -24,10 +24,9 @@ returns c =
     let i = r .before .before in
     let z = i .before .before in
     let s = z .before .args in
-    let good : isRead (s .image .now) ≡ true = sym (z .before .pre) ∙ i .if1 .taken in
-    let kept = r .step-line .ensures .2 good in (
-      r .step-line .ensures .0 ∙ kept .0,
-      r .step-line .ensures .1 ∙ kept .1,
+    let good : isRead (s .image .now) ≡ true = sym (z .before .pre) ∙ i .if1 .taken in (
+      r .step-line .ensures .0,
+      r .step-line .ensures .1,
       i .if1 .taken ∙ sym (stays-read (s .image .now) (s .line .now) (λ j. omega (arith, z .slice-known .given j)) good),
     )
 

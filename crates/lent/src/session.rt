@@ -3,18 +3,18 @@
 //
 // Of the line that is coming only 63 octets are kept: a longer one is refused by 21, whatever follows.
 
+use crate::sound;
 use events::Answer;
 use events::answers;
-use lent::sound;
 ghost use mathlib.Core.Path.{_≡_};
 ghost use Prim.Native.Nat.{_+_, _-_, _≤_, min};
 ghost use lib.ListN.{length, take, drop};
 ghost use lib.Seq.{sets};
 ghost use Rattle.lines.specs.AnswerLine.{answerLine, answerRoom};
 ghost use Rattle.image.specs.Image.{isRead};
 ghost use Rattle.lent.specs.Lent.{stepOn, leftOn};
-ghost use Rattle.session.specs.Session.{started, fed, fedOut, finishedOut, finishedCount};
-ghost use Rattle.session.specs.Keep.{atMost63, keptFrom, lenFrom, untilFeed};
+ghost use Rattle.lent.specs.Session.{started, fed, fedOut, finishedOut, finishedCount};
+ghost use Rattle.lent.specs.Keep.{atMost63, keptFrom, lenFrom, untilFeed};
 
 pub struct Session {
     // the table
@@ -113,7 +113,7 @@ fn answer_at(sound: bool, image: &mut [u8], line: &[u8]) -> Answer
     ensures { λ r. ⌜ (r ≡ stepOn (now (image .entry)) (now (line .entry)) .answer) × (now (image .exit) ≡ leftOn (now (image .entry)) (now (line .entry))) × (sound ≡ isRead (leftOn (now (image .entry)) (now (line .entry)))) ⌝ }
 {
     if sound {
-        lent::step_line(image, line)
+        crate::step_line(image, line)
     } else {
         answers::only_number(25)
     }

@@ -5,10 +5,10 @@ use Prim.Native.Nat.{_≤_}
 use lib.ListN.{length, take}
 use lib.Seq.{length-take-le}
 use borrow.Author.Tests.{lt-ltb, le-ltb, eq-eqb, ne-eqb}
-use Rattle.session.proofs.KeepLaws.{at-most-le, take-at-most}
+use Rattle.lent.proofs.KeepLaws.{at-most-le, take-at-most}
 use borrow.Author.Needs.{needs}
-use Rattle.session.proofs.finish.Statement.{statement}
-use Rattle.session.proofs.finish.Tie as tie
+use Rattle.lent.proofs.session.finish.Statement.{statement}
+use Rattle.lent.proofs.session.finish.Tie as tie
 
 returns : tie.Need-returns
 returns c = let short = lt-ltb _ _ (c .if1 .taken) in (rw short, rw short)

@@ -12,14 +12,14 @@ use borrow.Author.Needs.{needs}
 use borrow.Author.Tests.{lt-ltb, le-ltb}
 use Rattle.lines.specs.AnswerLine.{answerLine, answerRoom}
 use Rattle.image.specs.Image.{isRead}
 use Rattle.lent.specs.Lent.{stepOn, leftOn}
-use Rattle.session.specs.declared.Session.{Session}
-use Rattle.session.specs.Session.{endLine, pending, restart}
-use Rattle.session.specs.Keep.{untilFeed}
-use Rattle.session.proofs.KeepLaws.{keptBy, kept-size, at-most-le, take-at-most}
-use Rattle.session.proofs.Feeds.{Feeding, room-for, feeding-same, feeding-start, feeding-end, feeding-on}
-use Rattle.session.proofs.feed.Statement.{statement}
-use Rattle.session.proofs.feed.Tie as tie
+use Rattle.lent.specs.declared.session.Session.{Session}
+use Rattle.lent.specs.Session.{endLine, pending, restart}
+use Rattle.lent.specs.Keep.{untilFeed}
+use Rattle.lent.proofs.KeepLaws.{keptBy, kept-size, at-most-le, take-at-most}
+use Rattle.lent.proofs.Feeds.{Feeding, room-for, feeding-same, feeding-start, feeding-end, feeding-on}
+use Rattle.lent.proofs.session.feed.Statement.{statement}
+use Rattle.lent.proofs.session.feed.Tie as tie
 
 abbrev session : List ℕ → List ℕ → ℕ → Session
 session o k n = record { image = o; kept = k; len = n }

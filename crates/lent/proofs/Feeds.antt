@@ -9,10 +9,10 @@ use lib.ListN.{length, drop, length-append}
 use lib.Seq.{sets, length-sets}
 use Rattle.laws.proofs.Runs.{sets-append}
 use Rattle.lines.specs.AnswerLine.{answerLine, answerRoom}
-use Rattle.session.specs.declared.Session.{Session}
-use Rattle.session.specs.Session.{endLine, restart, after, said}
-use Rattle.session.specs.Keep.{untilFeed}
-use Rattle.session.proofs.KeepLaws.{keptBy, kept-size, feed-after, feed-said, last-after, last-said}
+use Rattle.lent.specs.declared.session.Session.{Session}
+use Rattle.lent.specs.Session.{endLine, restart, after, said}
+use Rattle.lent.specs.Keep.{untilFeed}
+use Rattle.lent.proofs.KeepLaws.{keptBy, kept-size, feed-after, feed-said, last-after, last-said}
 
 -- a piece, the buffer and the session before it; the session, the buffer, the count of octets written and the index now
 pub record Feeding (piece out₀ : List ℕ) (s₀ s : Session) (out : List ℕ) (at i : ℕ) : Type 0 where

@@ -8,8 +8,8 @@ use lib.ListN.{length, take, drop, set, length-drop}
 use lib.Seq.{sets, getD-drop}
 use borrow.Author.Needs.{needs}
 use Rattle.laws.proofs.Runs.{store-more}
-use Rattle.session.proofs.keep_octets.Statement.{statement}
-use Rattle.session.proofs.keep_octets.Tie as tie
+use Rattle.lent.proofs.session.keep_octets.Statement.{statement}
+use Rattle.lent.proofs.session.keep_octets.Tie as tie
 
 abbrev Inv-loop : tie.InvT-loop
 Inv-loop kept₀ len piece from count k₀ kept k = (k ≤ count) × (kept ≡ sets kept₀ len (take k (drop from piece)))

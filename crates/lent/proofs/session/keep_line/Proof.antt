@@ -6,10 +6,10 @@ use Prim.Native.Nat.{ℕ, _+_}
 use native.Mathlib.Omega.{arith}
 use lib.ListN.{drop}
 use borrow.Author.Needs.{needs}
-use Rattle.session.specs.Keep.{lenFrom}
-use Rattle.session.proofs.KeepLaws.{countKept, kept-run, len-run}
-use Rattle.session.proofs.keep_line.Statement.{statement}
-use Rattle.session.proofs.keep_line.Tie as tie
+use Rattle.lent.specs.Keep.{lenFrom}
+use Rattle.lent.proofs.KeepLaws.{countKept, kept-run, len-run}
+use Rattle.lent.proofs.session.keep_line.Statement.{statement}
+use Rattle.lent.proofs.session.keep_line.Tie as tie
 
 find-feed-requires : tie.Need-find-feed-requires
 find-feed-requires c κs = search needs

@@ -16,14 +16,14 @@ use Rattle.laws.proofs.Bools.{less-or}
 use Rattle.table.specs.declared.Table.{Table}
 use Rattle.table.specs.Places.{emptyTable}
 use Rattle.lines.specs.EventLine.{reading, readLine}
 use Rattle.lent.specs.LineStep.{stepRead, lineStep}
 use Rattle.lines.specs.AnswerLine.{answerLine}
 use Rattle.image.specs.Image.{imageOf}
 use Rattle.lent.specs.Lent.{stepOn, leftOn}
 use Rattle.lent.proofs.Tables.{Good, on-image, left-image, line-good, empty-good, empty-image}
-use Rattle.session.specs.declared.Session.{Session}
-use Rattle.session.specs.Stream.{lastLine, linesFrom, answersFrom}
-use Rattle.session.specs.Session.{started, pending, endLine, keep, restart, next, saysTo, after, said, saidLast, joinedPieces, saidToAll, CutAnyhow}
+use Rattle.lent.specs.declared.session.Session.{Session}
+use Rattle.lent.specs.Stream.{lastLine, linesFrom, answersFrom}
+use Rattle.lent.specs.Session.{started, pending, endLine, keep, restart, next, saysTo, after, said, saidLast, joinedPieces, saidToAll, CutAnyhow}
 
 -- ---- pieces one after the other
 
