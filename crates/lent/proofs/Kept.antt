@@ -13,7 +13,7 @@ use Rattle.laws.proofs.Bools.{and-left, and-right}
 use Rattle.table.specs.declared.Record.{Record}
 use Rattle.table.specs.declared.Table.{Table}
 use Rattle.table.specs.Places.{sideAt, recordAt}
-use Rattle.table.specs.Ranks.{nextWaiting, put}
+use Rattle.table.specs.Ranks.{put}
 use Rattle.table.specs.Sound.{isSound}
 use Rattle.events.specs.declared.Event.{Event}
 use Rattle.events.specs.declared.Acted.{Acted}
@@ -68,7 +68,7 @@ module _ (t : Table) (f : Fit t) (sound : isSound t ≡ true) (e : Event) (given
   place-kept i a inside whole true = place-put t f i inside (a .after) whole
   place-kept i a inside whole false = refl
 
-  by-aim : (k : Rule) → ruleOf (e .kind) ≡ k → (a : Aim) → aim (nextWaiting t) k t e ≡ a
+  by-aim : (k : Rule) → ruleOf (e .kind) ≡ k → (a : Aim) → aim k t e ≡ a
       → leftFor (imageOf t) e a ≡ cond (eqb (carriedOut k t e a .answer .number) 0) (imageOf (carriedOut k t e a .table)) (imageOf t)
   by-aim k rule (Nowhere w) q = rw (ne-eqb (refusalNumber w) 0 (refused-not-0 w))
   by-aim k rule (To i) q =
@@ -84,8 +84,8 @@ module _ (t : Table) (f : Fit t) (sound : isSound t ≡ true) (e : Event) (given
   pub image-of : eventImage (imageOf t) e ≡ cond (eqb (stepOf t e .answer .number) 0) (imageOf (stepOf t e .table)) (imageOf t)
   image-of =
       rw sound
-      (ap (λ (u : Table). leftFor (imageOf t) e (aim (nextWaiting u) (ruleOf (e .kind)) u e)) (table-back t f)
-      ∙ by-aim (ruleOf (e .kind)) refl (aim (nextWaiting t) (ruleOf (e .kind)) t e) refl)
+      (ap (λ (u : Table). leftFor (imageOf t) e (aim (ruleOf (e .kind)) u e)) (table-back t f)
+      ∙ by-aim (ruleOf (e .kind)) refl (aim (ruleOf (e .kind)) t e) refl)
 
   -- .. and where it is refused too, since then the table stays
   pub image-after : eventImage (imageOf t) e ≡ imageOf (stepOf t e .table)
@@ -96,14 +96,14 @@ module _ (t : Table) (f : Fit t) (sound : isSound t ≡ true) (e : Event) (given
       by false q = ap imageOf (sym (refusal-keeps t e (f .size, f .wide) (eqb-false _ 0 q)))
 
   -- the table after it is as the types say
-  fit-at : (a : Aim) → aim (nextWaiting t) (ruleOf (e .kind)) t e ≡ a → Fit (carriedOut (ruleOf (e .kind)) t e a .table)
+  fit-at : (a : Aim) → aim (ruleOf (e .kind)) t e ≡ a → Fit (carriedOut (ruleOf (e .kind)) t e a .table)
   fit-at (Nowhere w) q = f
   fit-at (To i) q =
       let inside : i < 96 = aim-inside t (f .size) (ruleOf (e .kind)) e i q in
       put-fit t f i inside (acted e i (recordAt t i) .after) (acted-long e i (recordAt t i) given (f .calls i inside))
 
   pub fit-after : Fit (stepOf t e .table)
-  fit-after = rw sound (fit-at (aim (nextWaiting t) (ruleOf (e .kind)) t e) refl)
+  fit-after = rw sound (fit-at (aim (ruleOf (e .kind)) t e) refl)
 
   -- THE STEP, TAKEN AT THE IMAGE AND READ BACK
   pub step-back : _≡_ {A = Step} (record { table = tableFrom (eventImage (imageOf t) e); answer = eventAnswer (imageOf t) e }) (stepOf t e)

@@ -6,7 +6,6 @@ use mathlib.Core.List.{List}
 use Prim.Native.Nat.{ℕ}
 use lib.Dec.{eqb}
 use Rattle.table.specs.Places.{recordAt}
-use Rattle.table.specs.Ranks.{nextWaiting}
 use Rattle.events.specs.declared.Event.{Event}
 use Rattle.events.specs.declared.Answer.{Answer}
 use Rattle.events.specs.declared.Acted.{Acted}
@@ -51,4 +50,4 @@ abbrev pub eventAnswer : List ℕ → Event → Answer
 eventAnswer image e = stepAny (tableFrom image) e .answer
 
 abbrev pub eventImage : List ℕ → Event → List ℕ
-eventImage image e = leftFor image e (aim (nextWaiting (tableFrom image)) (ruleOf (e .kind)) (tableFrom image) e)
+eventImage image e = leftFor image e (aim (ruleOf (e .kind)) (tableFrom image) e)

@@ -31,7 +31,6 @@ ghost use Rattle.table.specs.declared.Found.the-variants.{At};
 ghost use Rattle.table.specs.Places.{recordAt};
 ghost use Rattle.events.specs.Rule.{ruleOf};
 ghost use Rattle.events.specs.Act.{acted};
-ghost use Rattle.table.specs.Ranks.{nextWaiting};
 ghost use Rattle.step.specs.Aim.{aimAt, isProposed, chosen, aimNew, aim};
 ghost use Rattle.step.specs.Step.{carriedOut, stepAny, stepOf};
 ghost use Rattle.image.specs.Image.{tableFrom, isRead};
@@ -108,7 +107,7 @@ fn act_new(image: &mut [u8], d: Side, e: Event) -> Answer
 // An event at an image. Only its length is asked for: whether it is one of a sound table is for the caller to know.
 fn act_on(image: &mut [u8], e: Event) -> Answer
     requires { ⌜ length (now image) ≡ 2112 ⌝ }
-    ensures { λ r. ⌜ (r ≡ stepAny (tableFrom (now (image .entry))) e .answer) × (now (image .exit) ≡ leftFor (now (image .entry)) e (aim (nextWaiting (tableFrom (now (image .entry)))) (ruleOf (e .kind)) (tableFrom (now (image .entry))) e)) ⌝ }
+    ensures { λ r. ⌜ (r ≡ stepAny (tableFrom (now (image .entry))) e .answer) × (now (image .exit) ≡ leftFor (now (image .entry)) e (aim (ruleOf (e .kind)) (tableFrom (now (image .entry))) e)) ⌝ }
 {
     match sought::sought_of(e) {
         Sought::Held => {

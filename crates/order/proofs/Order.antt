@@ -37,13 +37,14 @@ use Rattle.events.specs.declared.message.Message.the-variants.{Connect, Facilit
 use Rattle.events.specs.declared.refusal.Refusal.the-variants.{ChoiceOrTimer, SideFull, CallNotHeld, NothingWaits}
 use Rattle.events.specs.declared.turn.Stage.{Stage}
 use Rattle.events.specs.declared.turn.Stage.the-variants.{AskedHere, AskedFrom}
-use Rattle.step.specs.declared.aim.Aim.the-variants.{To, Nowhere}
+use Rattle.step.specs.declared.aim.Aim.the-variants.{To}
 use Rattle.events.specs.Taken.{outcomeNumber, pickupNumber}
 use Rattle.events.specs.Turn.{stageBy, stageOf, up, isOutstanding, resulted, failed, failedInRelease, answered, runs, expired, turnOn}
-use Rattle.events.specs.Sought.{isTimer}
+use Rattle.events.specs.declared.sought.Sought.the-variants.{Held, Never}
+use Rattle.events.specs.Sought.{isTimer, soughtPickup}
 use Rattle.events.proofs.Released.{error-in-release}
 use Rattle.events.proofs.Refusals.{pickup-numbered}
-use Rattle.step.specs.Aim.{aimAt, indexOf, isProposed, chosen, unlessHeld, aimNew, aimNamed, aimPickup}
+use Rattle.step.specs.Aim.{aimAt, indexOf, isProposed, chosen, unlessHeld, aimNew, aimNamed, aimFor}
 use Rattle.step.specs.Step.{carriedOut, stepOf}
 use Rattle.order.specs.Order.{firstOf, isFound, recordFound, sideFound, isAsked, rows, InOrder}
 use Rattle.step.proofs.Aims.{proposed-side}
@@ -214,7 +215,7 @@ module _ (t : Table) (size : length (t .places) ≡ 96) (s : Signal) (number : (
           at-place t size e s i (w .0) ∙ number e (sideAt i) (recordAt t i) ∙ rw (w .1)
 
   abbrev PickupRows : Event → Type 0
-  PickupRows e = carriedOut (On s) t e (aimPickup (nextWaiting t) t e) .answer .number
+  PickupRows e = carriedOut (On s) t e (aimFor t e (soughtPickup (e .choice))) .answer .number
       ≡ cond (ltb 2 (e .choice)) 2
       (cond (eqb (e .choice) 0 && not (isFound (findCall t (e .call)))) 5
       (cond (not (eqb (e .choice) 0) && not (isFound (nextWaiting t (cond (eqb (e .choice) 1) Position Line)))) 6
@@ -295,7 +296,7 @@ module _ (t : Table) (size : length (t .places) ≡ 96) (sound : isSound t ≡ t
   kind-10 : (e : Event) → Ordered (withKind 10 e)
   kind-10 e = rw sound (expiry (isTimer (e .timer)))
     where
-      expiry : (b : Bool) → carriedOut (On Expiry) t (withKind 10 e) (cond b (aimNamed t (withKind 10 e)) (Nowhere ChoiceOrTimer)) .answer .number
+      expiry : (b : Bool) → carriedOut (On Expiry) t (withKind 10 e) (aimFor t (withKind 10 e) (cond b Held (Never ChoiceOrTimer))) .answer .number
           ≡ cond (not b) 2 (cond (not (isFound (findCall t (e .call)))) 5
           (cond (not (runs (timerSet (sideFound (findCall t (e .call))) (recordFound t (findCall t (e .call)) .state)) (e .timer))) 10 0))
       expiry true = named-number t size (withKind 10 e) Expiry (λ a r. cond (not (runs (timerSet a (r .state)) (e .timer))) 10 0)

@@ -22,7 +22,7 @@ use Rattle.table.specs.Sound.{isSound}
 use Rattle.table.proofs.Calls.{holds-same, holds-occupied, occupied-holds}
 use Rattle.table.proofs.Searches.{found-passes, none-passes, none-found}
 use Rattle.table.proofs.Facts.{facts-of-test}
-use Rattle.table.specs.Ranks.{nextWaiting, put}
+use Rattle.table.specs.Ranks.{put}
 use Rattle.events.specs.declared.Event.{Event}
 use Rattle.events.specs.declared.Answer.{Answer}
 use Rattle.step.specs.declared.Step.{Step}
@@ -31,12 +31,13 @@ use Rattle.events.specs.declared.rule.Rule.the-variants.{Start, On}
 use Rattle.events.specs.declared.rule.Signal.{Signal}
 use Rattle.events.specs.declared.rule.Signal.the-variants.{LocalPickup, PickRequest, PickupResult, PickupError, ErrorInRelease, Release, Answered, Expiry}
 use Rattle.events.specs.declared.refusal.Refusal.the-variants.{ChoiceOrTimer}
-use Rattle.step.specs.declared.aim.Aim.the-variants.{To, Nowhere}
+use Rattle.step.specs.declared.aim.Aim.the-variants.{To}
 use Rattle.events.specs.declared.turn.Outcome.{Outcome}
 use Rattle.events.specs.Rule.{ruleOf}
 use Rattle.events.specs.Turn.{turnOn, turn}
+use Rattle.events.specs.declared.sought.Sought.the-variants.{Held, Never}
 use Rattle.events.specs.Sought.{isTimer}
-use Rattle.step.specs.Aim.{indexOf, chosen, aimNamed, aimNew, aimOn, aim}
+use Rattle.step.specs.Aim.{indexOf, chosen, aimNamed, aimNew, aimFor, aim}
 use Rattle.events.specs.Act.{stayCall}
 use Rattle.step.specs.Step.{settled, stepOf}
 use Rattle.step.specs.Promises.{namesCall, AtOnePlace}
@@ -73,7 +74,7 @@ turn-by-name Answered d r e a = refl
 turn-by-name Expiry d r e a = refl
 
 -- an event that found its place, by name
-names : (k : Signal) (t : Table) (e : Event) (a : Answer) (i : ℕ) → ruleOf (e .kind) ≡ On k → aimOn (nextWaiting t) k t e ≡ To i
+names : (k : Signal) (t : Table) (e : Event) (a : Answer) (i : ℕ) → ruleOf (e .kind) ≡ On k → aim (On k) t e ≡ To i
     → namesCall (On k) (byAnswer e a) ≡ true
 names LocalPickup t e a i rule h = rw rule
 names PickRequest t e a i rule h = rw rule
@@ -84,7 +85,7 @@ names Release t e a i rule h = refl
 names Answered t e a i rule h = refl
 names Expiry t e a i rule h = by (isTimer (e .timer)) h
   where
-    by : (b : Bool) → cond b (aimNamed t e) (Nowhere ChoiceOrTimer) ≡ To i → b ≡ true
+    by : (b : Bool) → aimFor t e (cond b Held (Never ChoiceOrTimer)) ≡ To i → b ≡ true
     by true g = refl
     by false g = absurd (let z : _≡_ {A = ℕ} 0 1 = cc g in omega arith)
 
@@ -140,7 +141,7 @@ module _ (t : Table) (size : length (t .places) ≡ 96) (e : Event) where
 
 -- ---- a turn, done again
 
-aim-by-name : (k : Signal) (t : Table) (e : Event) → namesCall (On k) e ≡ true → aimOn (nextWaiting t) k t e ≡ aimNamed t e
+aim-by-name : (k : Signal) (t : Table) (e : Event) → namesCall (On k) e ≡ true → aim (On k) t e ≡ aimNamed t e
 aim-by-name LocalPickup t e h = rw h
 aim-by-name PickRequest t e h = rw h
 aim-by-name PickupResult t e h = refl
@@ -181,10 +182,10 @@ module _ (t : Table) (size : length (t .places) ≡ 96) (sound : isSound t ≡ t
       let here : chosen t d (placeAt p) ≡ At p = rw (side, index, o .was) in
       rw (absent (o .was), o .proposed, here)
 
-  aim-named : (k : Signal) → Acts k p (recordAt t p) e → aimOn (nextWaiting t) k t e ≡ To p
+  aim-named : (k : Signal) → Acts k p (recordAt t p) e → aim (On k) t e ≡ To p
   aim-named k h = aim-by-name k t e (h .named) ∙ rw (found (h .inside) (h .held))
 
-  step-at : (k : Rule) → ruleOf (e .kind) ≡ k → aim (nextWaiting t) k t e ≡ To p
+  step-at : (k : Rule) → ruleOf (e .kind) ≡ k → aim k t e ≡ To p
       → stepOf t e ≡ settled t e p (stayCall k e (recordAt t p)) (turn k (sideAt p) (recordAt t p) e)
   step-at k rule aimed = rw (sound, rule, aimed)
 

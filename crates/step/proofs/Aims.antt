@@ -30,11 +30,12 @@ use Rattle.events.specs.declared.rule.Rule.the-variants.{Start, On, Unknown}
 use Rattle.events.specs.declared.rule.Signal.the-variants.{LocalPickup, PickRequest, PickupResult, PickupError, ErrorInRelease, Release, Answered, Expiry}
 use Rattle.events.specs.declared.refusal.Refusal.{Refusal}
 use Rattle.events.specs.declared.refusal.Refusal.the-variants.{ChoiceOrTimer, SideFull, CallNotHeld, NothingWaits}
-use Rattle.step.specs.declared.aim.Aim.{Aim}
 use Rattle.step.specs.declared.aim.Aim.the-variants.{To, Nowhere}
-use Rattle.events.specs.Sought.{isTimer}
+use Rattle.events.specs.declared.sought.Sought.{Sought}
+use Rattle.events.specs.declared.sought.Sought.the-variants.{Held, Waiting, Never}
+use Rattle.events.specs.Sought.{isTimer, soughtPickup}
 use Rattle.table.specs.Ranks.{nextWaiting}
-use Rattle.step.specs.Aim.{aimAt, indexOf, isProposed, chosen, unlessHeld, aimNew, aimNamed, aimPickup, aimOn, aim}
+use Rattle.step.specs.Aim.{aimAt, indexOf, isProposed, chosen, unlessHeld, aimNew, aimNamed, aimFor, aim}
 use Rattle.step.specs.Promises.{namesCall}
 
 -- ---- states by their numbers
@@ -97,6 +98,10 @@ pub aim-at-to : (f : Found) (w : Refusal) (i : ℕ) → aimAt f w ≡ To i → f
 aim-at-to (At j) w i h = let same : j ≡ i = cc in rw same
 aim-at-to Nothing w i h = absurd (let z : _≡_ {A = ℕ} 0 1 = cc in omega arith)
 
+-- what a pickup looks for that does not name a call
+abbrev byChoice : Event → Sought
+byChoice e = cond (eqb (e .choice) 1) (Waiting Position) (cond (eqb (e .choice) 2) (Waiting Line) (Never ChoiceOrTimer))
+
 module _ (t : Table) (size : length (t .places) ≡ 96) where
   -- a free place of the side, and the call is held nowhere
   pub record Room (d : Side) (call : List ℕ) (i : ℕ) : Type 0 where
@@ -135,15 +140,15 @@ module _ (t : Table) (size : length (t .places) ≡ 96) where
   next-inside a i h = found-below t a 96 i (aim-at-to (nextWaiting t a) NothingWaits i h)
 
   -- an aim that names a call where the test passes
-  if-named : (e : Event) (i : ℕ) (b : Bool) (other : Aim) → (other ≡ To i → i < 96) → cond b (aimNamed t e) other ≡ To i
+  if-named : (e : Event) (i : ℕ) (b : Bool) (other : Sought) → (aimFor t e other ≡ To i → i < 96) → aimFor t e (cond b Held other) ≡ To i
       → (i < 96) × (b ≡ true → holds (e .call) (recordAt t i) ≡ true)
   if-named e i true other f h = let g = aim-named e i h in (g .0, λ q. g .1)
   if-named e i false other f h = (f h, λ q. never q)
 
-  pickup : (e : Event) (i : ℕ) → aimPickup (nextWaiting t) t e ≡ To i → (i < 96) × (eqb (e .choice) 0 ≡ true → holds (e .call) (recordAt t i) ≡ true)
-  pickup e i h = if-named e i (eqb (e .choice) 0) _ (by (eqb (e .choice) 1) (eqb (e .choice) 2)) h
+  pickup : (e : Event) (i : ℕ) → aimFor t e (soughtPickup (e .choice)) ≡ To i → (i < 96) × (eqb (e .choice) 0 ≡ true → holds (e .call) (recordAt t i) ≡ true)
+  pickup e i h = if-named e i (eqb (e .choice) 0) (byChoice e) (by (eqb (e .choice) 1) (eqb (e .choice) 2)) h
     where
-      by : (x y : Bool) → cond x (aimAt (nextWaiting t Position) NothingWaits) (cond y (aimAt (nextWaiting t Line) NothingWaits) (Nowhere ChoiceOrTimer)) ≡ To i → i < 96
+      by : (x y : Bool) → aimFor t e (cond x (Waiting Position) (cond y (Waiting Line) (Never ChoiceOrTimer))) ≡ To i → i < 96
       by true y g = next-inside Position i g
       by false true g = next-inside Line i g
       by false false g = absurd (let z : _≡_ {A = ℕ} 0 1 = cc in omega arith)
@@ -152,7 +157,7 @@ module _ (t : Table) (size : length (t .places) ≡ 96) where
   named e i h = let g = aim-named e i h in (g .0, λ q. g .1)
 
   -- an index of the table; and, of an event that names a call, the place that holds it
-  pub aim-on : (s : Signal) (e : Event) (i : ℕ) → aimOn (nextWaiting t) s t e ≡ To i → (i < 96) × (namesCall (On s) e ≡ true → holds (e .call) (recordAt t i) ≡ true)
+  pub aim-on : (s : Signal) (e : Event) (i : ℕ) → aim (On s) t e ≡ To i → (i < 96) × (namesCall (On s) e ≡ true → holds (e .call) (recordAt t i) ≡ true)
   aim-on LocalPickup e i h = pickup e i h
   aim-on PickRequest e i h = pickup e i h
   aim-on PickupResult e i h = named e i h
@@ -160,10 +165,10 @@ module _ (t : Table) (size : length (t .places) ≡ 96) where
   aim-on ErrorInRelease e i h = named e i h
   aim-on Release e i h = named e i h
   aim-on Answered e i h = named e i h
-  aim-on Expiry e i h = if-named e i (isTimer (e .timer)) (Nowhere ChoiceOrTimer) (λ g. absurd (let z : _≡_ {A = ℕ} 0 1 = cc in omega arith)) h
+  aim-on Expiry e i h = if-named e i (isTimer (e .timer)) (Never ChoiceOrTimer) (λ g. absurd (let z : _≡_ {A = ℕ} 0 1 = cc in omega arith)) h
 
   -- an index that an event aims at is one of the table's
-  pub aim-inside : (k : Rule) (e : Event) (i : ℕ) → aim (nextWaiting t) k t e ≡ To i → i < 96
+  pub aim-inside : (k : Rule) (e : Event) (i : ℕ) → aim k t e ≡ To i → i < 96
   aim-inside (Start d) e i h = aim-new d e i h .inside
   aim-inside (On s) e i h = aim-on s e i h .0
   aim-inside Unknown e i h = absurd (let z : _≡_ {A = ℕ} 0 1 = cc in omega arith)
@@ -172,16 +177,16 @@ module _ (t : Table) (size : length (t .places) ≡ 96) where
     lost : aimNamed t e ≡ Nowhere CallNotHeld
     lost = let f : findCall t (e .call) ≡ Nothing = none-found t size (λ j. holds (e .call)) gone in rw f
 
-    if-lost : (b : Bool) (other : Aim) → b ≡ true → cond b (aimNamed t e) other ≡ Nowhere CallNotHeld
+    if-lost : (b : Bool) (other : Sought) → b ≡ true → aimFor t e (cond b Held other) ≡ Nowhere CallNotHeld
     if-lost b other q = rw q lost
 
     -- a call that is held nowhere
-    pub aim-lost : (s : Signal) → namesCall (On s) e ≡ true → aimOn (nextWaiting t) s t e ≡ Nowhere CallNotHeld
-    aim-lost LocalPickup q = if-lost (eqb (e .choice) 0) _ q
-    aim-lost PickRequest q = if-lost (eqb (e .choice) 0) _ q
+    pub aim-lost : (s : Signal) → namesCall (On s) e ≡ true → aim (On s) t e ≡ Nowhere CallNotHeld
+    aim-lost LocalPickup q = if-lost (eqb (e .choice) 0) (byChoice e) q
+    aim-lost PickRequest q = if-lost (eqb (e .choice) 0) (byChoice e) q
     aim-lost PickupResult q = lost
     aim-lost PickupError q = lost
     aim-lost ErrorInRelease q = lost
     aim-lost Release q = lost
     aim-lost Answered q = lost
-    aim-lost Expiry q = if-lost (isTimer (e .timer)) _ q
+    aim-lost Expiry q = if-lost (isTimer (e .timer)) (Never ChoiceOrTimer) q

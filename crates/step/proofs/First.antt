@@ -17,10 +17,11 @@ use Rattle.events.specs.declared.rule.Signal.{Signal}
 use Rattle.events.specs.declared.rule.Signal.the-variants.{LocalPickup, PickRequest}
 use Rattle.events.specs.declared.refusal.Refusal.the-variants.{NothingWaits}
 use Rattle.events.specs.Rule.{ruleOf}
+use Rattle.events.specs.Sought.{soughtPickup}
 use Rattle.events.proofs.Refusals.{refused-not-0}
 use Rattle.step.specs.declared.Step.{Step}
 use Rattle.step.specs.declared.aim.Aim.the-variants.{To}
-use Rattle.step.specs.Aim.{aimAt, aimPickup, aimOn}
+use Rattle.step.specs.Aim.{aimAt, aimFor, aim}
 use Rattle.step.specs.Step.{stepOf}
 use Rattle.step.specs.Promises.{AtOnePlace, choiceOf, Waits, TakesFirst}
 use Rattle.step.proofs.Aims.{aim-at-to, same-index}
@@ -34,11 +35,11 @@ module _ (t : Table) (size : length (t .places) ≡ 96) (e : Event) (a : Side) (
   next-leads : (i : ℕ) → aimAt (nextWaiting t a) NothingWaits ≡ To i → Leads i
   next-leads i h = let f = found-leads t a 96 i (aim-at-to (nextWaiting t a) NothingWaits i h) in (f .1, f .2)
 
-  by-choice : (b : Side) → e .choice ≡ choiceOf b → aimPickup (nextWaiting t) t e ≡ aimAt (nextWaiting t b) NothingWaits
+  by-choice : (b : Side) → e .choice ≡ choiceOf b → aimFor t e (soughtPickup (e .choice)) ≡ aimAt (nextWaiting t b) NothingWaits
   by-choice Position q = rw q
   by-choice Line q = rw q
 
-  pickup-leads : (i : ℕ) → aimPickup (nextWaiting t) t e ≡ To i → Leads i
+  pickup-leads : (i : ℕ) → aimFor t e (soughtPickup (e .choice)) ≡ To i → Leads i
   pickup-leads i h = next-leads i (sym (by-choice a choice) ∙ h)
 
   -- a kind 3 or 4 aims as a pickup
@@ -46,11 +47,11 @@ module _ (t : Table) (size : length (t .places) ≡ 96) (e : Event) (a : Side) (
   reached-leads (inl q) k i at =
       let local : ruleOf (e .kind) ≡ On LocalPickup = rw q in
       let same : k ≡ LocalPickup = cc (sym (at .rule) ∙ local) in
-      pickup-leads i (subst (λ s. aimOn (nextWaiting t) s t e ≡ To i) same (at .aimed))
+      pickup-leads i (subst (λ s. aim (On s) t e ≡ To i) same (at .aimed))
   reached-leads (inr q) k i at =
       let remote : ruleOf (e .kind) ≡ On PickRequest = rw q in
       let same : k ≡ PickRequest = cc (sym (at .rule) ∙ remote) in
-      pickup-leads i (subst (λ s. aimOn (nextWaiting t) s t e ≡ To i) same (at .aimed))
+      pickup-leads i (subst (λ s. aim (On s) t e ≡ To i) same (at .aimed))
 
   leads : (e .kind ≡ 3) ⊎ (e .kind ≡ 4) → (s : Step) → Stepped t size e s → s .answer .number ≡ 0 → (x : AtOnePlace t s) → Leads (x .index)
   leads kind s (kept w) h x = absurd (refused-not-0 w h)

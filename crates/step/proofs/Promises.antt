@@ -33,17 +33,19 @@ use Rattle.events.specs.declared.rule.Signal.the-variants.{LocalPickup, PickReq
 use Rattle.events.specs.declared.message.Message.{Message}
 use Rattle.events.specs.declared.message.Message.the-variants.{NoMessage, PickResult}
 use Rattle.events.specs.declared.refusal.Refusal.{Refusal}
-use Rattle.events.specs.declared.refusal.Refusal.the-variants.{CallNotHeld, TableUnsound}
+use Rattle.events.specs.declared.refusal.Refusal.the-variants.{ChoiceOrTimer, CallNotHeld, TableUnsound}
 use Rattle.events.specs.declared.turn.Stage.{Stage}
 use Rattle.events.specs.declared.turn.Stage.the-variants.{Waits, Taken}
 use Rattle.events.specs.declared.turn.Outcome.{Outcome}
 use Rattle.events.specs.declared.turn.Outcome.the-variants.{Refused, Freed, Becomes}
 use Rattle.step.specs.declared.aim.Aim.{Aim}
+use Rattle.events.specs.declared.sought.Sought.the-variants.{Held, Waiting, Never}
+use Rattle.events.specs.Sought.{isTimer}
 use Rattle.step.specs.declared.aim.Aim.the-variants.{To, Nowhere}
 use Rattle.events.specs.Rule.{ruleOf}
 use Rattle.events.specs.Turn.{heldRecord, stageOf, greeting, isOutstanding, turnOn, turn}
-use Rattle.table.specs.Ranks.{nextWaiting, callsOn, put}
-use Rattle.step.specs.Aim.{aim, aimAt, aimNamed, aimOn}
+use Rattle.table.specs.Ranks.{callsOn, put}
+use Rattle.step.specs.Aim.{aim, aimAt, aimNamed, aimFor}
 use Rattle.events.specs.Act.{stayCall}
 use Rattle.events.proofs.Released.{error-in-release}
 use Rattle.events.proofs.Refusals.{refused-not-0}
@@ -230,7 +232,7 @@ module _ (t : Table) (all : Full t) (e : Event) where
   lost-is-5 : byName e ≡ true → ((j : ℕ) → j < 96 → holds (e .call) (recordAt t j) ≡ false) → isSound t ≡ true → stepOf t e .answer .number ≡ 5
   lost-is-5 named gone sound = rw sound (by (ruleOf (e .kind)) named)
     where
-      by : (k : Rule) → namesCall k e ≡ true → carriedOut k t e (aim (nextWaiting t) k t e) .answer .number ≡ 5
+      by : (k : Rule) → namesCall k e ≡ true → carriedOut k t e (aim k t e) .answer .number ≡ 5
       by (Start d) h = never h
       by (On s) h = rw (aim-lost t size e gone s h)
       by Unknown h = never h
@@ -239,7 +241,7 @@ module _ (t : Table) (all : Full t) (e : Event) where
 
   module _ (sound : isSound t ≡ true) (j : ℕ) (inside : j < 96) (held : holds (e .call) (recordAt t j) ≡ true) where
     -- a signal on a held call does its turn at the place that holds it
-    pub on-held : (k : Signal) → ruleOf (e .kind) ≡ On k → aimOn (nextWaiting t) k t e ≡ aimNamed t e → (P : Step → Type 0)
+    pub on-held : (k : Signal) → ruleOf (e .kind) ≡ On k → aim (On k) t e ≡ aimNamed t e → (P : Step → Type 0)
         → P (settled t e j (recordAt t j .call) (turnOn k (sideAt j) (recordAt t j) e)) → P (stepOf t e)
     on-held k rule named P turned = rw (sound, rule, named) (by (findCall t (e .call)) refl)
       where
@@ -253,7 +255,7 @@ module _ (t : Table) (all : Full t) (e : Event) where
             rw same (subst (λ u. P (settled t e j (recordAt t j .call) u)) (sym done-there) turned)
         by Nothing q = absurd (not-both held (none-passes t size (λ n. holds (e .call)) q j inside))
 
-    frees : (k : Signal) (m : Message) → ruleOf (e .kind) ≡ On k → aimOn (nextWaiting t) k t e ≡ aimNamed t e
+    frees : (k : Signal) (m : Message) → ruleOf (e .kind) ≡ On k → aim (On k) t e ≡ aimNamed t e
         → turnOn k (sideAt j) (recordAt t j) e ≡ Freed m NoMessage → IsAccepted t e × (stepOf t e .answer .state ≡ 0)
     frees k m rule named freed = on-held k rule named (λ (s : Step). (s .answer .number ≡ 0) × (s .answer .state ≡ 0)) (rw freed (refl, refl))
 
@@ -317,16 +319,28 @@ start-answers-its-call t e d all accepted start = own-call t all e d start (step
 
 -- aim, turn, call and refusal read no other field than those that the rule names
 module _ (e : Event) where
-  same-aim : (k : Rule) (t : Table) → aim (nextWaiting t) k t (onlyNamed k e) ≡ aim (nextWaiting t) k t e
+  same-pickup : (f : Event) → f .call ≡ e .call → (t : Table) (x y z : Bool)
+      → aimFor t f (cond x Held (cond y (Waiting Position) (cond z (Waiting Line) (Never ChoiceOrTimer))))
+      ≡ aimFor t e (cond x Held (cond y (Waiting Position) (cond z (Waiting Line) (Never ChoiceOrTimer))))
+  same-pickup f q t true y z = rw q
+  same-pickup f q t false true z = refl
+  same-pickup f q t false false true = refl
+  same-pickup f q t false false false = refl
+
+  same-expiry : (f : Event) → f .call ≡ e .call → (t : Table) (b : Bool) → aimFor t f (cond b Held (Never ChoiceOrTimer)) ≡ aimFor t e (cond b Held (Never ChoiceOrTimer))
+  same-expiry f q t true = rw q
+  same-expiry f q t false = refl
+
+  same-aim : (k : Rule) (t : Table) → aim k t (onlyNamed k e) ≡ aim k t e
   same-aim (Start d) t = refl
-  same-aim (On LocalPickup) t = refl
-  same-aim (On PickRequest) t = refl
+  same-aim (On LocalPickup) t = same-pickup (onlyNamed (On LocalPickup) e) refl t (eqb (e .choice) 0) (eqb (e .choice) 1) (eqb (e .choice) 2)
+  same-aim (On PickRequest) t = same-pickup (onlyNamed (On PickRequest) e) refl t (eqb (e .choice) 0) (eqb (e .choice) 1) (eqb (e .choice) 2)
   same-aim (On PickupResult) t = refl
   same-aim (On PickupError) t = refl
   same-aim (On ErrorInRelease) t = refl
   same-aim (On Release) t = refl
   same-aim (On Answered) t = refl
-  same-aim (On Expiry) t = refl
+  same-aim (On Expiry) t = same-expiry (onlyNamed (On Expiry) e) refl t (isTimer (e .timer))
   same-aim Unknown t = refl
 
   same-turn : (k : Rule) (a : Side) (r : Record) → turn k a r (onlyNamed k e) ≡ turn k a r e
@@ -385,8 +399,8 @@ ignores-other-fields t e =
     let k : Rule = ruleOf (e .kind) in
     let f : Event = onlyNamed k e in
     let kind : ruleOf (f .kind) ≡ k = ap ruleOf (same-kind e k) in
-    let carried : carriedOut (ruleOf (f .kind)) t f (aim (nextWaiting t) (ruleOf (f .kind)) t f) ≡ carriedOut k t e (aim (nextWaiting t) k t e) =
-    rw (kind, same-aim e k t) (same-carried e t k refl (aim (nextWaiting t) k t e)) in
+    let carried : carriedOut (ruleOf (f .kind)) t f (aim (ruleOf (f .kind)) t f) ≡ carriedOut k t e (aim k t e) =
+    rw (kind, same-aim e k t) (same-carried e t k refl (aim k t e)) in
     ap₂ (λ x y. cond (isSound t) x y) carried (same-refusal e t k refl TableUnsound)
 
 pub release-frees : ReleaseFrees

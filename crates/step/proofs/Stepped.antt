@@ -31,9 +31,8 @@ use Rattle.events.specs.Rule.{ruleOf}
 use Rattle.events.specs.Answers.{declined}
 use Rattle.events.specs.Taken.{outcomeNumber}
 use Rattle.events.specs.Turn.{heldRecord, greeting, turnOn}
-use Rattle.table.specs.Ranks.{nextWaiting}
 use Rattle.table.proofs.Keep.{put-same}
-use Rattle.step.specs.Aim.{aim, aimOn}
+use Rattle.step.specs.Aim.{aim}
 use Rattle.step.specs.Step.{refusedBy, done, settled, carriedOut, stepOf}
 use Rattle.step.proofs.Aims.{Room, aim-new, aim-on}
 
@@ -43,7 +42,7 @@ pub record Reached (t : Table) (e : Event) (s : Signal) (i : ℕ) : Type 0 where
   pub rule : ruleOf (e .kind) ≡ On s
   pub inside : i < 96
   pub occupied : isFree (recordAt t i .state) ≡ false
-  pub aimed : aimOn (nextWaiting t) s t e ≡ To i
+  pub aimed : aim (On s) t e ≡ To i
 
 pub data Stepped (t : Table) (size : length (t .places) ≡ 96) (e : Event) : Step → Type 0 where
   kept : (w : Refusal) → Stepped t size e (refusedBy t e w)
@@ -80,7 +79,7 @@ module _ (t : Table) (size : length (t .places) ≡ 96) (e : Event) where
     on-held false q = outcome (turnOn s (sideAt i) (recordAt t i) e) q refl
 
   module _ (sound : isSound t ≡ true) where
-    by-aim : (k : Rule) → ruleOf (e .kind) ≡ k → (a : Aim) → aim (nextWaiting t) k t e ≡ a → Stepped t size e (carriedOut k t e a)
+    by-aim : (k : Rule) → ruleOf (e .kind) ≡ k → (a : Aim) → aim k t e ≡ a → Stepped t size e (carriedOut k t e a)
     by-aim k rule (Nowhere w) q = kept w
     by-aim (Start d) rule (To i) q = begun d i sound rule (aim-new t size d e i q)
     by-aim (On s) rule (To i) q =
@@ -92,6 +91,6 @@ module _ (t : Table) (size : length (t .places) ≡ 96) (e : Event) where
   stepped = by (isSound t) refl
     where
       by : (b : Bool) → isSound t ≡ b
-          → Stepped t size e (cond b (carriedOut (ruleOf (e .kind)) t e (aim (nextWaiting t) (ruleOf (e .kind)) t e)) (refusedBy t e TableUnsound))
-      by true q = by-aim q (ruleOf (e .kind)) refl (aim (nextWaiting t) (ruleOf (e .kind)) t e) refl
+          → Stepped t size e (cond b (carriedOut (ruleOf (e .kind)) t e (aim (ruleOf (e .kind)) t e)) (refusedBy t e TableUnsound))
+      by true q = by-aim q (ruleOf (e .kind)) refl (aim (ruleOf (e .kind)) t e) refl
       by false q = kept TableUnsound

@@ -21,8 +21,7 @@ use Rattle.events.specs.Answers.{saying}
 use Rattle.events.specs.Turn.{stageOf, pickedUp, turnOn}
 use Rattle.events.proofs.Refusals.{pickup-numbered, taken-alike}
 use Rattle.step.specs.declared.Step.{Step}
-use Rattle.table.specs.Ranks.{nextWaiting}
-use Rattle.step.specs.Aim.{aimOn, aimNamed}
+use Rattle.step.specs.Aim.{aim, aimNamed}
 use Rattle.step.specs.Step.{stepOf}
 use Rattle.step.specs.Promises.{TellsWhy, TakenAnswer}
 use Rattle.step.proofs.Stepped.{Stepped, kept, begun, ended, went-on, settled-number, stepped}
@@ -32,7 +31,7 @@ pub tells-why : TellsWhy
 tells-why t e all sound kind choice j inside held =
     ⊎-elim (λ q. at LocalPickup _ _ _ (rw q) (rw choice) refl) (λ q. at PickRequest _ _ _ (rw q) (rw choice) refl) kind
   where
-    at : (k : Signal) (to : Stage) (n : Invoke) (m : Message) → ruleOf (e .kind) ≡ On k → aimOn (nextWaiting t) k t e ≡ aimNamed t e
+    at : (k : Signal) (to : Stage) (n : Invoke) (m : Message) → ruleOf (e .kind) ≡ On k → aim (On k) t e ≡ aimNamed t e
         → turnOn k (sideAt j) (recordAt t j) e ≡ pickedUp (stageOf (recordAt t j)) to n m → stepOf t e .answer .number ≡ pickupNumber (recordAt t j .state)
     at k to n m rule named turn =
         on-held t all e sound j inside held k rule named (λ (s : Step). s .answer .number ≡ pickupNumber (recordAt t j .state))

@@ -6,7 +6,7 @@ use Prim.Native.Nat.{ℕ}
 use Rattle.table.specs.declared.Record.{Record}
 use Rattle.table.specs.declared.Table.{Table}
 use Rattle.table.specs.Places.{recordAt}
-use Rattle.table.specs.Ranks.{nextWaiting, put}
+use Rattle.table.specs.Ranks.{put}
 use Rattle.table.specs.Sound.{isSound}
 use Rattle.events.specs.declared.Event.{Event}
 use Rattle.events.specs.declared.Acted.{Acted}
@@ -45,7 +45,7 @@ carriedOut k t e (To i) = placed t i (actedBy k e i (recordAt t i))
 
 -- the step where nothing is asked of the table
 abbrev pub stepAny : Table → Event → Step
-stepAny t e = carriedOut (ruleOf (e .kind)) t e (aim (nextWaiting t) (ruleOf (e .kind)) t e)
+stepAny t e = carriedOut (ruleOf (e .kind)) t e (aim (ruleOf (e .kind)) t e)
 
 -- THE STEP. "25: .. table not sound", before 1 to 10
 abbrev pub stepOf : Table → Event → Step

@@ -1,16 +1,13 @@
--- By what the event looks for (`aim-sought`): each arm is a clause of `aimFor`.
+-- By what the event looks for: each arm is a clause of `aimFor`.
 -- Assumes nothing.
 use mathlib.Core.Path.{sym, refl, ap, _∙_}
 use Rattle.table.specs.declared.Table.{Table}
 use Rattle.table.specs.Search.{holds}
 use Rattle.table.proofs.Searches.{found-passes}
-use Rattle.events.specs.Rule.{ruleOf}
 use Rattle.image.specs.Image.{tableFrom}
 use Rattle.image.proofs.Round.{fit-from}
-use Rattle.table.specs.Ranks.{nextWaiting}
 use Rattle.table.proofs.RankLaws.{found-below}
 use Rattle.step.specs.Aim.{aimFor}
-use Rattle.step.proofs.Soughts.{aim-sought}
 use borrow.Author.Needs.{needs}
 use Rattle.lent.proofs.act_on.Statement.{statement}
 use Rattle.lent.proofs.act_on.Tie as tie
@@ -69,7 +66,7 @@ returns c =
     let z = k .before .before in
     let s = z .args .image .now in
     let t : Table = tableFrom s in
-    let aimed = aim-sought (nextWaiting t) t (z .args .e) (ruleOf (z .args .e .kind)) ∙ ap (aimFor (nextWaiting t) t (z .args .e)) (sym (k .sought-of .ensures) ∙ m .enum-told .given .1) in
+    let aimed = ap (aimFor t (z .args .e)) (sym (k .sought-of .ensures) ∙ m .enum-told .given .1) in
     rw (aimed, ← f .find-call .ensures) (r .act-found .ensures)
 
 same-length-2 : tie.Need-same-length-2
@@ -85,7 +82,7 @@ returns-2 c =
     let s = z .args .image .now in
     let t : Table = tableFrom s in
     let a = m .a .given .0 .0 in
-    let aimed = aim-sought (nextWaiting t) t (z .args .e) (ruleOf (z .args .e .kind)) ∙ ap (aimFor (nextWaiting t) t (z .args .e)) (sym (k .sought-of .ensures) ∙ m .a .given .1) in
+    let aimed = ap (aimFor t (z .args .e)) (sym (k .sought-of .ensures) ∙ m .a .given .1) in
     rw (aimed, ← f .next-waiting .ensures) (r .act-found2 .ensures)
 
 same-length-3 : tie.Need-same-length-3
@@ -98,7 +95,7 @@ returns-3 c =
     let k = m .before .before in
     let z = k .before .before in
     let t : Table = tableFrom (z .args .image .now) in
-    let aimed = aim-sought (nextWaiting t) t (z .args .e) (ruleOf (z .args .e .kind)) ∙ ap (aimFor (nextWaiting t) t (z .args .e)) (sym (k .sought-of .ensures) ∙ m .d .given .1) in
+    let aimed = ap (aimFor t (z .args .e)) (sym (k .sought-of .ensures) ∙ m .d .given .1) in
     rw aimed (r .act-new .ensures)
 
 returns-4 : tie.Need-returns-4
@@ -107,7 +104,7 @@ returns-4 c =
     let k = m .before .before in
     let z = k .before .before in
     let t : Table = tableFrom (z .args .image .now) in
-    let aimed = aim-sought (nextWaiting t) t (z .args .e) (ruleOf (z .args .e .kind)) ∙ ap (aimFor (nextWaiting t) t (z .args .e)) (sym (k .sought-of .ensures) ∙ m .w .given .1) in
+    let aimed = ap (aimFor t (z .args .e)) (sym (k .sought-of .ensures) ∙ m .w .given .1) in
     rw aimed (c .decline .ensures, refl)
 
 pub act-on-spec : {M : Type 1} → statement M
