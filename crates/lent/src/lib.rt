@@ -1,7 +1,10 @@
-// The table kept as its image, in octets that the caller lends. No table is copied: an event is for one place, and only the octets of that
-// place are read and written, and ranks of its side where a call begins or ends. What comes of a line is defined in specs/Lent.antt, by the
+// What runs: the table kept as its image, in octets that the caller lends. No table is copied: an event is for one place, and only the octets of
+// that place are read and written, and ranks of its side where a call begins or ends. What comes of a line is defined in specs/Lent.antt, by the
 // machine's own definition. A table by value is stepped, tested and written in the same way, at its image in an array of its own.
+//
+// Whatever acts on an image without a test of it asks something of it and is the crate's own. A public function tests first.
 
+mod marks;
 mod octets;
 pub mod places;
 mod ranks;

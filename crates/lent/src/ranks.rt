@@ -4,15 +4,33 @@ use image::ranks::Calls;
 use table::Side;
 use table::State;
 use table::Table;
-use table::ranks;
 ghost use mathlib.Core.Path.{_≡_};
 ghost use mathlib.Core.Bool.{cond, not};
 ghost use Prim.Native.Nat.{_*_, _<_};
 ghost use lib.Dec.{eqb};
 ghost use lib.ListN.{length};
 ghost use Rattle.table.specs.Places.{isFree};
+ghost use Rattle.table.specs.Ranks.{movedUp};
+ghost use Rattle.table.specs.Marks.{ofSide};
 ghost use Rattle.image.specs.Image.{recordFrom, closedUpIn, rerankedIn};
 ghost use Rattle.image.specs.Quick.{callsIn, firstOf, endOf};
+
+// Of two numbers, one for each side, that of a side.
+pub(crate) fn of_side(a: Side, positions: u8, lines: u8) -> u8
+    ensures { λ r. ⌜ r ≡ ofSide a positions lines ⌝ }
+{
+    match a {
+        Side::Position => positions,
+        Side::Line => lines,
+    }
+}
+
+// A rank, when the place of its side with rank k is freed.
+pub(crate) fn move_up(k: u8, rank: u8) -> u8
+    ensures { λ r. ⌜ r ≡ movedUp k rank ⌝ }
+{
+    if k < rank { rank - 1 } else { rank }
+}
 
 // 1 where a state octet is that of a call.
 fn held(s: u8) -> u8
@@ -68,7 +86,7 @@ fn close_up(image: &mut [u8], a: Side, k: u8)
     let end = end_of(a);
     while j < end {
         let at = j * 22 + 21;
-        image[at] = ranks::move_up(k, image[at]);
+        image[at] = move_up(k, image[at]);
         j += 1;
     }
 }
@@ -83,7 +101,7 @@ pub(crate) fn rerank(image: &mut [u8], i: usize, after: State)
     if image[at] == 0 {
         if !after.is_free() {
             let n = calls_in(image);
-            image[at + 21] = ranks::of_side(a, n.positions, n.lines) + 1;
+            image[at + 21] = of_side(a, n.positions, n.lines) + 1;
         }
     } else {
         if after.is_free() {

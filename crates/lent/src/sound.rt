@@ -120,8 +120,8 @@ fn enter_rank(image: &[u8], calls: Calls, marks: &mut [u8; 512], i: usize) -> bo
         return rank == 0;
     }
     let a = Side::at(i);
-    let n = table::ranks::of_side(a, calls.positions, calls.lines);
-    table::ranks::enter_rank(marks, a, false, n, rank)
+    let n = crate::ranks::of_side(a, calls.positions, calls.lines);
+    crate::marks::enter_rank(marks, a, false, n, rank)
 }
 
 // Does every place fit, does no call stand twice, and are the ranks of each side those of its calls?

@@ -1,10 +1,10 @@
 -- Of every public function: two results that meet its contract are equal, since each contract is an equation with a definition.
 -- Assumes nothing.
 use mathlib.Core.Path.{sym, _∙_}
-use denote.Ref.{now}
-use Rattle.laws.specs.Decides.{Decides, DecidesMemory}
+use Rattle.laws.specs.Decides.{Decides}
 use Rattle.table.proofs.State.number.Reads as state-number
 use Rattle.table.proofs.State.is_free.Reads as is-free
+use Rattle.table.proofs.Side.index.Reads as index
 use Rattle.table.proofs.Side.waiting.Reads as waiting
 use Rattle.table.proofs.Side.at.Reads as side-at
 use Rattle.table.proofs.Sided.is_of.Reads as is-of
@@ -16,14 +16,12 @@ use Rattle.table.proofs.timers.timer_set.Reads as timer-set
 use Rattle.table.proofs.timers.started.Reads as started
 use Rattle.table.proofs.search.same_call.Reads as same-call
 use Rattle.table.proofs.search.is_at.Reads as is-at
-use Rattle.table.proofs.ranks.of_side.Reads as of-side
-use Rattle.table.proofs.ranks.enter_rank.Reads as enter-rank
-use Rattle.table.proofs.ranks.move_up.Reads as move-up
 use Rattle.table.proofs.Side.same.Reads as same
 
 pub record Decided : Type 0 where
   pub number-decided : Decides state-number.Post
   pub is-free-decided : Decides is-free.Post
+  pub index-decided : Decides index.Post
   pub waiting-decided : Decides waiting.Post
   pub side-at-decided : Decides side-at.Post
   pub is-of-decided : Decides is-of.Post
@@ -35,15 +33,13 @@ pub record Decided : Type 0 where
   pub started-decided : Decides started.Post
   pub same-call-decided : Decides same-call.Post
   pub is-at-decided : Decides is-at.Post
-  pub of-side-decided : Decides of-side.Post
-  pub enter-rank-decided : DecidesMemory enter-rank.Post (λ κ d. now (d .0))
-  pub move-up-decided : Decides move-up.Post
   pub same-decided : Decides same.Post
 
 pub decided : Decided
 decided = record {
   number-decided = λ κ a x y d e p q. p ∙ sym q;
   is-free-decided = λ κ a x y d e p q. p ∙ sym q;
+  index-decided = λ κ a x y d e p q. p ∙ sym q;
   waiting-decided = λ κ a x y d e p q. p ∙ sym q;
   side-at-decided = λ κ a x y d e p q. p ∙ sym q;
   is-of-decided = λ κ a x y d e p q. p ∙ sym q;
@@ -55,8 +51,5 @@ decided = record {
   started-decided = λ κ a x y d e p q. p ∙ sym q;
   same-call-decided = λ κ a x y d e p q. p ∙ sym q;
   is-at-decided = λ κ a x y d e p q. p ∙ sym q;
-  of-side-decided = λ κ a x y d e p q. p ∙ sym q;
-  enter-rank-decided = λ κ a x y d e p q. (p .0 ∙ sym (q .0), p .1 ∙ sym (q .1));
-  move-up-decided = λ κ a x y d e p q. p ∙ sym q;
   same-decided = λ κ a x y d e p q. p ∙ sym q;
 }

@@ -4,7 +4,6 @@
 //
 // Places are counted from 1 and are a type of their own; an index into the array is counted from 0.
 
-pub mod ranks;
 pub mod search;
 pub mod status;
 pub mod timers;
@@ -100,7 +99,7 @@ impl State {
 
 impl Side {
     // The row of this side in the timer table.
-    pub(crate) fn index(self) -> u8
+    pub fn index(self) -> u8
         ensures { λ r. ⌜ r ≡ sideIndex self ⌝ }
     {
         match self {

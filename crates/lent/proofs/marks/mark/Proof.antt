@@ -1,10 +1,10 @@
 -- The slot is below 512: a side's index is 0 or 1, and a rank is an octet.
 -- Assumes nothing.
 use native.Mathlib.Omega.{arith}
 use Rattle.table.proofs.Laws.{side-below}
 use borrow.Author.Needs.{needs}
-use Rattle.table.proofs.ranks.mark.Statement.{statement}
-use Rattle.table.proofs.ranks.mark.Tie as tie
+use Rattle.lent.proofs.marks.mark.Statement.{statement}
+use Rattle.lent.proofs.marks.mark.Tie as tie
 
 index-requires : tie.Need-index-requires
 index-requires c κs = search needs

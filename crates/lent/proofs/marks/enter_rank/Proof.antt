@@ -3,8 +3,8 @@
 use mathlib.Core.Path.{sym, _∙_}
 use borrow.Author.Tests.{eq-eqb, ne-eqb, not-true, not-false}
 use borrow.Author.Needs.{needs}
-use Rattle.table.proofs.ranks.enter_rank.Statement.{statement}
-use Rattle.table.proofs.ranks.enter_rank.Tie as tie
+use Rattle.lent.proofs.marks.enter_rank.Statement.{statement}
+use Rattle.lent.proofs.marks.enter_rank.Tie as tie
 
 rank-in-requires : tie.Need-rank-in-requires
 rank-in-requires c κs = search needs

@@ -2,8 +2,8 @@
 -- Assumes nothing.
 use borrow.Author.Tests.{lt-ltb, le-ltb}
 use borrow.Author.Needs.{needs}
-use Rattle.table.proofs.ranks.move_up.Statement.{statement}
-use Rattle.table.proofs.ranks.move_up.Tie as tie
+use Rattle.lent.proofs.ranks.move_up.Statement.{statement}
+use Rattle.lent.proofs.ranks.move_up.Tie as tie
 
 sub-result : tie.Need-sub-result
 sub-result c = search needs

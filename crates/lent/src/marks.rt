@@ -1,12 +1,12 @@
-// Ranks: the calls of a side are numbered from 1, in the order in which they came. Here is what is to be done with one rank.
+// Ranks entered one by one, each with a mark, so that one which stands twice on a side is found at once.
 
-use crate::Side;
+use table::Side;
 ghost use mathlib.Core.Path.{_≡_};
 ghost use mathlib.Core.Bool.{cond, _&&_};
 ghost use lib.Dec.{eqb};
 ghost use lib.ListN.{getD, set};
-ghost use Rattle.table.specs.Ranks.{rankIn, movedUp};
-ghost use Rattle.table.specs.Marks.{slotOf, isFresh, withMark, ofSide};
+ghost use Rattle.table.specs.Ranks.{rankIn};
+ghost use Rattle.table.specs.Marks.{slotOf, isFresh, withMark};
 
 // May a place, free or not, of a side with n calls have this rank?
 fn rank_in(free: bool, n: u8, rank: u8) -> bool
@@ -30,7 +30,7 @@ fn mark(marks: &mut [u8; 512], a: Side, rank: u8) -> bool
 }
 
 // May the next place of a side with n calls, free or not, have this rank after those that are marked? If so, it is marked too.
-pub fn enter_rank(marks: &mut [u8; 512], a: Side, free: bool, n: u8, rank: u8) -> bool
+pub(crate) fn enter_rank(marks: &mut [u8; 512], a: Side, free: bool, n: u8, rank: u8) -> bool
     ensures { λ r. ⌜ (r ≡ rankIn free n rank && isFresh (now (marks .entry)) a rank) × (now (marks .exit) ≡ cond (rankIn free n rank) (withMark (now (marks .entry)) a rank) (now (marks .entry))) ⌝ }
 {
     if !rank_in(free, n, rank) {
@@ -40,21 +40,4 @@ pub fn enter_rank(marks: &mut [u8; 512], a: Side, free: bool, n: u8, rank: u8) -
         return true;
     }
     mark(marks, a, rank)
-}
-
-// Of two numbers, one for each side, that of a side.
-pub fn of_side(a: Side, positions: u8, lines: u8) -> u8
-    ensures { λ r. ⌜ r ≡ ofSide a positions lines ⌝ }
-{
-    match a {
-        Side::Position => positions,
-        Side::Line => lines,
-    }
-}
-
-// A rank, when the place of its side with rank k is freed.
-pub fn move_up(k: u8, rank: u8) -> u8
-    ensures { λ r. ⌜ r ≡ movedUp k rank ⌝ }
-{
-    if k < rank { rank - 1 } else { rank }
 }

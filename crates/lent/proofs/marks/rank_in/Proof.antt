@@ -1,8 +1,8 @@
 -- The tests are those of the definition.
 -- Assumes nothing.
 use borrow.Author.Tests.{eq-eqb, ne-eqb}
-use Rattle.table.proofs.ranks.rank_in.Statement.{statement}
-use Rattle.table.proofs.ranks.rank_in.Tie as tie
+use Rattle.lent.proofs.marks.rank_in.Statement.{statement}
+use Rattle.lent.proofs.marks.rank_in.Tie as tie
 
 returns : tie.Need-returns
 returns c = rw (c .if1 .taken)
