@@ -1,6 +1,5 @@
 -- Both functions are decided: two runs that meet the contract of `park_step` give the same count and leave the same image and the same answer
 -- buffer, and two that meet that of `park_bad_field` give the same field.
--- Assumes nothing.
 use mathlib.Core.Path.{sym, _∙_}
 use mathlib.Core.List.{List}
 use Prim.Native.Nat.{ℕ}

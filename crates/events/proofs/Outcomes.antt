@@ -1,6 +1,5 @@
 -- What a signal does at a held call, seen as what it is: it is refused, or the stay goes on or ends in one of four ways each, with the stage that
 -- the call was at. What is promised of one turn goes by these cases.
--- Assumes nothing.
 use mathlib.Core.Path.{_≡_, refl, ap}
 use mathlib.Core.Bool.{Bool, true, false, cond}
 use Prim.Native.Nat.{ℕ}

@@ -1,6 +1,5 @@
 -- The refusals, gone through once: the range of their numbers, what goes out with them, and those of a call that is taken, which go by its state
 -- and are alike on the wire.
--- Assumes nothing.
 use mathlib.Core.Path.{_≡_, refl}
 use Prim.Native.Nat.{_≤_}
 use native.Mathlib.Omega.{arith}

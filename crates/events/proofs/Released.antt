@@ -1,5 +1,4 @@
 -- Kind 7 does what kind 8 does: at every stage, and whether its number is the outstanding one or not.
--- Assumes nothing.
 use mathlib.Core.Path.{_≡_, refl}
 use mathlib.Core.Bool.{Bool, true, false}
 use Rattle.events.specs.declared.turn.Stage.{Stage}

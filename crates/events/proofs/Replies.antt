@@ -1,6 +1,5 @@
 -- A call in state 4 has a picker who waits for a reply: a signal that is accepted there sends just one, to that picker, and takes the call out
 -- of that state. At a call in another state no signal sends a reply.
--- Assumes nothing.
 use mathlib.Core.Path.{_≡_, refl, sym, ap, _∙_}
 use mathlib.Core.Bool.{true, false, true≢false, false≢true}
 use Rattle.table.specs.declared.Connection.{Connection}

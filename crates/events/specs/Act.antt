@@ -1,5 +1,4 @@
 -- An event at the place that it is for: the record that it leaves there, and its answer.
--- Assumes nothing.
 use mathlib.Core.List.{List}
 use Prim.Native.Nat.{ℕ}
 use Rattle.table.specs.declared.Record.{Record}

@@ -1,6 +1,5 @@
 -- The answers: to an event that is done, and to one that is refused (document 01, "Refusal numbers", and of "Lines, image, status" the answer
 -- line's fields; document 02, Q-1: "An answer therefore holds up to two messages.").
--- Assumes nothing.
 use mathlib.Core.List.{List}
 use Prim.Native.Nat.{ℕ}
 use Rattle.table.specs.declared.State.{State}

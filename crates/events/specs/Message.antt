@@ -1,5 +1,4 @@
 -- The messages (document 01, "Messages: .."): the paper's number of each, and the fields of an answer that it fills.
--- Assumes nothing.
 use Prim.Native.Nat.{ℕ}
 use Rattle.table.specs.declared.Connection.{Connection}
 use Rattle.table.specs.declared.Invoke.{Invoke}

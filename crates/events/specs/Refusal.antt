@@ -1,6 +1,5 @@
 -- The refusals (document 01, "Refusal numbers"; document 02, Q-3), in the order in which they are checked: the paper's number of each, and the
 -- message that goes with it.
--- Assumes nothing.
 use Prim.Native.Nat.{ℕ}
 use Rattle.table.specs.declared.Connection.{Connection}
 use Rattle.table.specs.declared.Side.the-variants.{Position, Line}

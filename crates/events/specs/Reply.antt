@@ -1,6 +1,5 @@
 -- Who is told how a pickrequ came out (document 02, Q-1): messages 5 and 6, pickrequ Return Result and pickrequ Return Error, reply to it,
 -- and no other message does.
--- Assumes nothing.
 use mathlib.Core.Path.{_≡_}
 use mathlib.Core.Bool.{Bool, true, cond, _||_}
 use Prim.Native.Nat.{ℕ, _+_}

@@ -1,5 +1,4 @@
 -- The rule of an event's kind (document 01, "Events").
--- Assumes nothing.
 use mathlib.Core.Bool.{cond}
 use Prim.Native.Nat.{ℕ}
 use lib.Dec.{eqb}

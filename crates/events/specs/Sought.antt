@@ -1,6 +1,5 @@
 -- What an event looks for in the table (document 01, "Events" and refusals 1 and 2): the place that holds its call, the next waiting call of
 -- a side, a free place of a side; or it is refused whatever the table is.
--- Assumes nothing.
 use mathlib.Core.Bool.{Bool, cond, _||_}
 use Prim.Native.Nat.{ℕ}
 use lib.Dec.{eqb}

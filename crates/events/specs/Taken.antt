@@ -1,6 +1,5 @@
 -- A call that is taken (document 02, Q-3): the number by which a clerk is told why, and that a picker elsewhere hears one error whatever the
 -- number.
--- Assumes nothing.
 use mathlib.Core.Path.{_≡_}
 use mathlib.Core.Bool.{Bool, true, _||_}
 use Prim.Native.Nat.{ℕ}

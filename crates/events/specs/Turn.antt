@@ -1,7 +1,6 @@
 -- What an event does at one place (document 01, "Events"; document 02, Q-1; H.450.5, 7.3 and 7.5). The outcome says only what changes: a refusal,
 -- the end of the stay, or the stage that the call is now at with its count. So a freed record is all zeros, a call stays the
 -- same, an occupied place stays occupied, and only state 4 has a connection, all by construction.
--- Assumes nothing.
 use mathlib.Core.Bool.{Bool, true, false, cond}
 use mathlib.Core.List.{List}
 use Prim.Native.Nat.{ℕ, _+_, _/_, _%_, _^_}

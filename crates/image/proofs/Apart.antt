@@ -1,71 +1,71 @@
 -- The calls of an image's table are apart where no two occupied places have one call: from the octets to the test of soundness, and to
 -- its facts.
--- Assumes nothing.
 use mathlib.Core.Path.{_≡_, refl, sym, ap, ap₂, _∙_}
 use mathlib.Core.Bool.{Bool, true, false, not, _&&_}
 use mathlib.Core.List.{List}
-use Prim.Native.Nat.{ℕ, suc, _+_, _*_, _<_}
-use native.Mathlib.Nat.{zero-add}
+use Prim.Native.Nat.{ℕ, _+_, _*_, _<_}
 use native.Mathlib.Omega.{arith}
 use lib.Dec.{eqb}
-use lib.ListN.{getD, drop, length-drop}
-use lib.Seq.{getD-drop}
 use borrow.Author.Tests.{eqb-false, ne-eqb}
+use Rattle.laws.proofs.Bools.{and-both, and-right}
+use Rattle.laws.proofs.Lists.{below-make}
 use Rattle.table.specs.declared.Record.{Record}
-use Rattle.table.specs.Places.{isFree, blank}
-use Rattle.table.specs.Search.{sameCall, every}
-use Rattle.table.specs.Sound.{clash, unlike, apartFromLater, isSound}
+use Rattle.table.specs.Places.{isFree, placeCount, recordAt}
+use Rattle.table.specs.Search.{sameCall}
+use Rattle.table.specs.Sound.{clash, callsDiffer, recordSound, isSound}
+use Rattle.table.specs.Ranks.{isRanked}
 use Rattle.table.proofs.Calls.{same-is}
-use Rattle.table.proofs.Facts.{every-make, facts-of-test}
-use Rattle.image.specs.Image.{recordFrom, recordsFrom, tableFrom}
-use Rattle.image.specs.Quick.{stateAt, Busy, callAt, Apart}
-use Rattle.image.proofs.Round.{size-from, record-at}
-use Rattle.image.proofs.PlaceLaws.{free-octet}
+use Rattle.table.proofs.Facts.{facts-of-test}
+use Rattle.image.specs.Image.{placeStart, recordFrom, stateOctet, recordIn, tableFrom, statesFit, placesSound}
+use Rattle.image.specs.Quick.{placeFits, Busy, callAt, Apart}
+use Rattle.image.proofs.Round.{record-at}
+use Rattle.image.proofs.PlaceLaws.{free-octet, states-fit, record-fits}
 
-call-of : (s : List ℕ) (k : ℕ) → recordFrom s (k * 22) .call ≡ callAt s k
+call-of : (s : List ℕ) (k : ℕ) → recordIn s k .call ≡ callAt s k
 unfolding recordFrom
 call-of s k = refl
 
 -- ---- to the test
 
-unlike-places : (s : List ℕ) (k m : ℕ) → Apart s k m → not (clash (recordFrom s (k * 22)) (recordFrom s (m * 22))) ≡ true
-unlike-places s k m apart =
-    rw (free-octet s (k * 22), free-octet s (m * 22), call-of s k, call-of s m)
-    (by (eqb (stateAt s k) 0) (eqb (stateAt s m) 0) (sameCall (callAt s m) (callAt s k)) refl refl refl)
+unlike-places : (s : List ℕ) (m k : ℕ) → Apart s k m → not (clash (recordIn s m) (recordIn s k)) ≡ true
+unlike-places s m k apart =
+    rw (free-octet s (placeStart m), free-octet s (placeStart k), call-of s m, call-of s k)
+    (by (eqb (stateOctet s m) 0) (eqb (stateOctet s k) 0) (sameCall (callAt s k) (callAt s m)) refl refl refl)
   where
-    by : (a b c : Bool) → eqb (stateAt s k) 0 ≡ a → eqb (stateAt s m) 0 ≡ b → sameCall (callAt s m) (callAt s k) ≡ c
+    by : (a b c : Bool) → eqb (stateOctet s m) 0 ≡ a → eqb (stateOctet s k) 0 ≡ b → sameCall (callAt s k) (callAt s m) ≡ c
         → not (not a && (not b && c)) ≡ true
     by true b c p q e = refl
     by false true c p q e = refl
     by false false false p q e = refl
     by false false true p q e =
-        absurd (apart (eqb-false (stateAt s k) 0 p) (eqb-false (stateAt s m) 0 q) (sym (same-is (callAt s m) (callAt s k) e)))
+        absurd (apart (eqb-false (stateOctet s k) 0 q) (eqb-false (stateOctet s m) 0 p) (same-is (callAt s k) (callAt s m) e))
 
-pub calls-apart : (s : List ℕ) → ((m : ℕ) → m < 96 → (k : ℕ) → k < m → Apart s k m) → every apartFromLater 0 (recordsFrom s 0 96) ≡ true
-calls-apart s apart =
-    let l = recordsFrom s 0 96 in
-    every-make apartFromLater 0 l (λ i h.
-    rw (zero-add i)
-    (every-make (unlike (getD l i blank)) (i + 1) (drop (suc i) l) (λ m hm.
-    let far : suc i + m < 96 = omega (arith, length-drop (suc i) l, size-from s 0 96) in
-    ap₂ (λ (r x : Record). not (clash r x)) (record-at s i (omega arith)) (getD-drop (suc i) l m blank ∙ record-at s (suc i + m) far)
-    ∙ unlike-places s i (suc i + m) (apart (suc i + m) far i (omega arith)))))
+-- places that fit, calls that are apart and ranks that are right make an image of a sound table
+pub places-sound : (s : List ℕ) → ((i : ℕ) → i < placeCount → placeFits s i ≡ true) → ((m : ℕ) → m < placeCount → (k : ℕ) → k < m → Apart s k m)
+    → isRanked (tableFrom s) ≡ true → placesSound s ≡ true
+places-sound s fits apart ranked =
+    let t = tableFrom s in
+    let differ : (m : ℕ) → m < placeCount → (k : ℕ) → k < m → callsDiffer (tableFrom s) m k ≡ true = λ m h k l.
+    ap₂ (λ (r x : Record). not (clash r x)) (record-at s m h) (record-at s k (omega arith)) ∙ unlike-places s m k (apart m h k l) in
+    and-both (states-fit s fits)
+    (and-both
+    (below-make (recordSound t) placeCount (λ i h. and-both (record-fits s i h (fits i h)) (below-make (callsDiffer t i) i (differ i h))))
+    ranked)
 
 -- ---- to the facts
 
-pub one-call-twice : (s : List ℕ) (k m : ℕ) → k < m → m < 96 → Busy s k → Busy s m → callAt s k ≡ callAt s m → isSound (tableFrom s) ≡ false
+pub one-call-twice : (s : List ℕ) (k m : ℕ) → k < m → m < placeCount → Busy s k → Busy s m → callAt s k ≡ callAt s m → isSound (tableFrom s) ≡ false
 one-call-twice s k m l h bk bm c = by (isSound (tableFrom s)) refl
   where
-    busy : (j : ℕ) → j < 96 → Busy s j → isFree (getD (recordsFrom s 0 96) j blank .state) ≡ false
-    busy j i b = ap (λ (r : Record). isFree (r .state)) (record-at s j i) ∙ free-octet s (j * 22) ∙ ne-eqb (stateAt s j) 0 b
+    busy : (j : ℕ) → j < placeCount → Busy s j → isFree (recordAt (tableFrom s) j .state) ≡ false
+    busy j i b = ap (λ (r : Record). isFree (r .state)) (record-at s j i) ∙ free-octet s (placeStart j) ∙ ne-eqb (stateOctet s j) 0 b
 
-    call : (j : ℕ) → j < 96 → getD (recordsFrom s 0 96) j blank .call ≡ callAt s j
+    call : (j : ℕ) → j < placeCount → recordAt (tableFrom s) j .call ≡ callAt s j
     call j i = ap (λ (r : Record). r .call) (record-at s j i) ∙ call-of s j
 
     by : (b : Bool) → isSound (tableFrom s) ≡ b → b ≡ false
     by false q = refl
     by true q =
-        let k96 : k < 96 = omega arith in
-        let one-place = facts-of-test (tableFrom s) (size-from s 0 96) q .one-place in
-        let same : k ≡ m = one-place k m k96 h (busy k k96 bk) (busy m h bm) (call k k96 ∙ c ∙ sym (call m h)) in
+        let first : k < placeCount = omega arith in
+        let same : k ≡ m = facts-of-test (tableFrom s) q .one-place k m first h (busy k first bk) (busy m h bm) (call k first ∙ c ∙ sym (call m h)) in
         absurd (omega arith)

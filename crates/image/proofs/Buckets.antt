@@ -1,6 +1,5 @@
 -- Buckets of calls: an occupied place with the call of a later one is in its bucket, and the last place of a bucket leads back to every one
 -- before it. So the places of a bucket, from its last one down, are all that have to be looked at. By induction on the places.
--- Assumes nothing.
 use mathlib.Core.Path.{_≡_, refl, sym, ap, _∙_}
 use mathlib.Core.Bool.{Bool, true, false, cond, not, _&&_}
 use mathlib.Core.List.{List}
@@ -13,34 +12,36 @@ use lib.ListN.{getD, set, replicate, length-set, length-replicate, getD-replicat
 use lib.Seq.{getD-set-same, getD-set-other}
 use borrow.Author.Count.{below-more}
 use borrow.Author.Tests.{eqb-true, eqb-false, eq-eqb, ne-eqb, not-true}
+use Rattle.table.specs.Places.{placeCount}
 use Rattle.laws.proofs.Bools.{and-left, and-right, not-both, less-or, equal-or}
-use Rattle.image.specs.Quick.{stateAt, Busy, callAt, bucketOf, inBucket, lastIn, Linked, Apart, Entered}
+use Rattle.image.specs.Image.{stateOctet}
+use Rattle.image.specs.Quick.{Busy, callAt, bucketOf, inBucket, lastIn, Linked, Apart, Entered}
 
 module _ (s : List ℕ) (h k : ℕ) where
   in-made : Busy s k → bucketOf (callAt s k) ≡ h → inBucket s h k ≡ true
   unfolding inBucket
-  in-made b e = rw (ne-eqb (stateAt s k) 0 b, eq-eqb (bucketOf (callAt s k)) h e)
+  in-made b e = rw (ne-eqb (stateOctet s k) 0 b, eq-eqb (bucketOf (callAt s k)) h e)
 
   in-not : (bucketOf (callAt s k) ≡ h → ⊥) → inBucket s h k ≡ false
   unfolding inBucket
-  in-not n = by (not (eqb (stateAt s k) 0)) (ne-eqb (bucketOf (callAt s k)) h n)
+  in-not n = by (not (eqb (stateOctet s k) 0)) (ne-eqb (bucketOf (callAt s k)) h n)
     where
       by : (b : Bool) → eqb (bucketOf (callAt s k)) h ≡ false → (b && eqb (bucketOf (callAt s k)) h) ≡ false
       by true e = e
       by false e = refl
 
-  in-free : stateAt s k ≡ 0 → inBucket s h k ≡ false
+  in-free : stateOctet s k ≡ 0 → inBucket s h k ≡ false
   unfolding inBucket
   in-free e = rw e
 
   module _ (e : inBucket s h k ≡ true) where
     in-busy : Busy s k
     unfolding inBucket
-    in-busy = eqb-false (stateAt s k) 0 (not-true (eqb (stateAt s k) 0) (and-left (not (eqb (stateAt s k) 0)) _ e))
+    in-busy = eqb-false (stateOctet s k) 0 (not-true (eqb (stateOctet s k) 0) (and-left (not (eqb (stateOctet s k) 0)) _ e))
 
     in-same : bucketOf (callAt s k) ≡ h
     unfolding inBucket
-    in-same = eqb-true (bucketOf (callAt s k)) h (and-right (not (eqb (stateAt s k) 0)) _ e)
+    in-same = eqb-true (bucketOf (callAt s k)) h (and-right (not (eqb (stateOctet s k) 0)) _ e)
 
 -- ---- the last place of a bucket
 
@@ -128,18 +129,18 @@ module _ {s : List ℕ} {i p q : ℕ} (w : Walk s i p) (at : p ≡ suc q) where
 
 -- ---- entering a place
 
-pub entered-none : (s : List ℕ) → Entered s 0 (replicate 509 0) (replicate 96 0)
+pub entered-none : (s : List ℕ) → Entered s 0 (replicate 509 0) (replicate placeCount 0)
 unfolding lastIn
 entered-none s = record {
   buckets = length-replicate {A = ℕ} 509 0;
-  places = length-replicate {A = ℕ} 96 0;
+  places = length-replicate {A = ℕ} placeCount 0;
   lasts = λ h l. getD-replicate 509 h 0 0 l;
   linked = λ k l. absurd (omega arith);
   apart = λ m l. absurd (omega arith);
 }
 
 module _ {s : List ℕ} {n : ℕ} {last before : List ℕ} (e : Entered s n last before) where
-  pub enter-free : stateAt s n ≡ 0 → Entered s (n + 1) last before
+  pub enter-free : stateOctet s n ≡ 0 → Entered s (n + 1) last before
   enter-free z = record {
     buckets = e .buckets;
     places = e .places;
@@ -152,7 +153,7 @@ module _ {s : List ℕ} {n : ℕ} {last before : List ℕ} (e : Entered s n last
     pub enter-first : getD last h 0 ≡ lastIn s (bucketOf (callAt s n)) n
     enter-first = e .lasts h lh ∙ ap (λ (g : ℕ). lastIn s g n) eh
 
-    pub enter-busy : n < 96 → Busy s n → ((k : ℕ) → k < n → Apart s k n)
+    pub enter-busy : n < placeCount → Busy s n → ((k : ℕ) → k < n → Apart s k n)
         → Entered s (n + 1) (set last h (n + 1)) (set before n (getD last h 0))
     enter-busy ln busy apart =
         let made : lastIn s h (n + 1) ≡ n + 1 = last-here s h n (in-made s h n busy (sym eh)) in

@@ -5,5 +5,4 @@ pub mod Looks
 pub mod PlaceLaws
 pub mod Puts
 pub mod Round
-pub mod Sides
 pub mod WordLaws

@@ -1,42 +1,92 @@
--- Looking through the places of an image, one after the other.
--- Assumes nothing.
-use mathlib.Core.Path.{_≡_, refl, _∙_}
+-- Looking through the places of an image, one after the other: what the places from i on say, by place i and those after it.
+use mathlib.Core.Path.{_≡_, refl, ap, _∙_}
 use mathlib.Core.Bool.{Bool, true, false, cond, not, _&&_}
 use mathlib.Core.List.{List}
-use Prim.Native.Nat.{ℕ, _+_, _-_, _*_, _<_, _≤_}
+use mathlib.Core.Logic.{inl, inr}
+use Prim.Native.Nat.{ℕ, _+_, _*_, _<_, _≤_}
+use native.Mathlib.Nat.{zero-add}
 use native.Mathlib.Omega.{arith}
 use lib.Dec.{eqb}
 use lib.ListN.{length, getD, take, drop}
 use lib.Seq.{take-all}
+use Rattle.laws.proofs.Lists.{fold-skip, fold-rest}
+use Rattle.table.specs.declared.State.{State}
+use Rattle.table.specs.declared.Side.{Side}
 use Rattle.table.specs.declared.Record.{Record}
+use Rattle.table.specs.declared.Found.{Found}
 use Rattle.table.specs.declared.Found.the-variants.{At, Nothing}
-use Rattle.table.specs.Search.{sameCall, holds, lowest, total}
-use Rattle.image.specs.Image.{recordFrom, recordsFrom}
-use Rattle.image.proofs.Fills.{records-step}
+use Rattle.table.specs.Places.{placeCount, sideAt, firstIndex, endIndex, callOctets, blank}
+use Rattle.table.specs.Search.{sameCall, holds, isAt, lowest, total}
+use Rattle.table.specs.Ranks.{heldOn, callsOn}
+use Rattle.table.proofs.Sides.{other-side, end-inside, side-outside}
+use Rattle.table.proofs.Searches.{lowest-at, lowest-end, total-at, total-end}
+use Rattle.image.specs.Image.{placeStart, recordFrom, stateOctet, recordIn, tableFrom}
+use Rattle.image.specs.Quick.{callAt}
+use Rattle.image.proofs.Round.{size-from, record-at}
 use Rattle.image.proofs.PlaceLaws.{free-octet}
 
--- place i passes the test, or the places after it decide
-pub lowest-place : (p : ℕ → Record → Bool) (s : List ℕ) (i : ℕ) → i < 96
-    → lowest p i (recordsFrom s (i * 22) (96 - i)) ≡ cond (p i (recordFrom s (i * 22))) (At i) (lowest p (i + 1) (recordsFrom s ((i + 1) * 22) (96 - (i + 1))))
-lowest-place p s i h =
-    let next : i * 22 + 22 ≡ (i + 1) * 22 = omega arith in
-    rw (records-step s (i * 22) (96 - i) (96 - (i + 1)) (omega arith), next)
+module _ (s : List ℕ) (i : ℕ) where
+  -- the records from place i on
+  abbrev pub fromPlace : List Record
+  fromPlace = drop i (tableFrom s .places)
 
--- after the last place there is none
-pub lowest-past : (p : ℕ → Record → Bool) (s : List ℕ) (i : ℕ) → 96 ≤ i → lowest p i (recordsFrom s (i * 22) (96 - i)) ≡ Nothing
-unfolding recordsFrom
-lowest-past p s i h = let none : 96 - i ≡ 0 = omega arith in rw none
+  module _ (p : ℕ → Record → Bool) where
+    pub lowest-place : i < placeCount → lowest p i fromPlace ≡ cond (p i (recordIn s i)) (At i) (lowest p (i + 1) (drop (i + 1) (tableFrom s .places)))
+    lowest-place h =
+        lowest-at p blank (tableFrom s .places) i (omega (arith, size-from s))
+        ∙ ap (λ (r : Record). cond (p i r) (At i) (lowest p (i + 1) (drop (i + 1) (tableFrom s .places)))) (record-at s i h)
 
--- the sum of a number of each place, from i on
-pub total-place : (f : ℕ → Record → ℕ) (s : List ℕ) (i : ℕ) → i < 96
-    → total f i (recordsFrom s (i * 22) (96 - i)) ≡ f i (recordFrom s (i * 22)) + total f (i + 1) (recordsFrom s ((i + 1) * 22) (96 - (i + 1)))
-total-place f s i h =
-    let next : i * 22 + 22 ≡ (i + 1) * 22 = omega arith in
-    rw (records-step s (i * 22) (96 - i) (96 - (i + 1)) (omega arith), next)
+    pub lowest-past : placeCount ≤ i → lowest p i fromPlace ≡ Nothing
+    lowest-past h = lowest-end p blank (tableFrom s .places) i (omega (arith, size-from s))
 
-pub total-past : (f : ℕ → Record → ℕ) (s : List ℕ) (i : ℕ) → 96 ≤ i → total f i (recordsFrom s (i * 22) (96 - i)) ≡ 0
-unfolding recordsFrom
-total-past f s i h = let none : 96 - i ≡ 0 = omega arith in rw none
+  module _ (f : ℕ → Record → ℕ) where
+    pub total-place : i < placeCount → total f i fromPlace ≡ f i (recordIn s i) + total f (i + 1) (drop (i + 1) (tableFrom s .places))
+    total-place h =
+        total-at f (tableFrom s .places) i (omega (arith, size-from s))
+        ∙ ap (λ (r : Record). f i r + total f (i + 1) (drop (i + 1) (tableFrom s .places))) (record-at s i h)
+
+    pub total-past : placeCount ≤ i → total f i fromPlace ≡ 0
+    total-past h = total-end f (tableFrom s .places) i (omega (arith, size-from s))
+
+-- ---- the places of a side: what only they can change goes from its first place to its last
+
+module _ (s : List ℕ) (a : Side) where
+  abbrev records : List Record
+  records = tableFrom s .places
+
+  side-room : endIndex a ≤ length records
+  side-room = omega (arith, size-from s, end-inside a .1)
+
+  first-room : firstIndex a ≤ length records
+  first-room = omega (arith, side-room, end-inside a .0)
+
+  -- another side's place, before the first or after the last
+  before-first : (j : ℕ) → j < firstIndex a → sideAt j ≡ a → ⊥
+  before-first j h = side-outside a j (omega (arith, h, end-inside a)) (inl h)
+
+  after-last : (j : ℕ) → endIndex a ≤ j → j < length records → sideAt j ≡ a → ⊥
+  after-last j low h = side-outside a j (omega (arith, h, size-from s)) (inr low)
+
+  module _ (u : State) where
+    not-at : (j : ℕ) → (sideAt j ≡ a → ⊥) → (b : Found) → cond (isAt a u j (getD records j blank)) (At j) b ≡ b
+    not-at j other b = rw (other-side (sideAt j) a other)
+
+    pub lowest-first : lowest (isAt a u) 0 records ≡ lowest (isAt a u) (firstIndex a) (drop (firstIndex a) records)
+    lowest-first = fold-skip (λ i r later. cond (isAt a u i r) (At i) later) Nothing blank records (firstIndex a) first-room (λ j h. not-at j (before-first j h))
+
+    pub lowest-last : lowest (isAt a u) (endIndex a) (drop (endIndex a) records) ≡ Nothing
+    lowest-last = fold-rest (λ i r later. cond (isAt a u i r) (At i) later) Nothing blank records (endIndex a) side-room (λ j low h. not-at j (after-last j low h))
+
+  not-held : (j : ℕ) → (sideAt j ≡ a → ⊥) → (b : ℕ) → heldOn a j (getD records j blank) + b ≡ b
+  not-held j other b = rw (other-side (sideAt j) a other) (zero-add b)
+
+  pub calls-first : callsOn (tableFrom s) a ≡ total (heldOn a) (firstIndex a) (drop (firstIndex a) records)
+  calls-first = fold-skip (λ i r later. heldOn a i r + later) 0 blank records (firstIndex a) first-room (λ j h. not-held j (before-first j h))
+
+  pub calls-last : total (heldOn a) (endIndex a) (drop (endIndex a) records) ≡ 0
+  calls-last = fold-rest (λ i r later. heldOn a i r + later) 0 blank records (endIndex a) side-room (λ j low h. not-held j (after-last j low h))
+
+-- ---- a place holds a call by its octets: the call first, and then the state
 
 and-true : (b : Bool) → (b && true) ≡ b
 and-true true = refl
@@ -46,18 +96,17 @@ and-false : (b : Bool) → (b && false) ≡ false
 and-false true = refl
 and-false false = refl
 
--- a place holds a call by its octets: the call first, and then the state
 module _ (s : List ℕ) (i : ℕ) (call : List ℕ) where
-  by-octets : holds call (recordFrom s (i * 22)) ≡ (not (eqb (getD s (i * 22) 0) 0) && sameCall (take 16 (drop (i * 22 + 1) s)) call)
+  by-octets : holds call (recordIn s i) ≡ (not (eqb (stateOctet s i) 0) && sameCall (callAt s i) call)
   unfolding recordFrom
-  by-octets = rw (free-octet s (i * 22))
+  by-octets = rw (free-octet s (placeStart i))
 
-  pub holds-same : sameCall (take 16 (drop (i * 22 + 1) s)) call ≡ true → holds call (recordFrom s (i * 22)) ≡ not (eqb (getD s (i * 22) 0) 0)
-  holds-same h = by-octets ∙ rw h (and-true (not (eqb (getD s (i * 22) 0) 0)))
+  pub holds-same : sameCall (callAt s i) call ≡ true → holds call (recordIn s i) ≡ not (eqb (stateOctet s i) 0)
+  holds-same h = by-octets ∙ rw h (and-true (not (eqb (stateOctet s i) 0)))
 
-  pub holds-other : sameCall (take 16 (drop (i * 22 + 1) s)) call ≡ false → holds call (recordFrom s (i * 22)) ≡ false
-  holds-other h = by-octets ∙ rw h (and-false (not (eqb (getD s (i * 22) 0) 0)))
+  pub holds-other : sameCall (callAt s i) call ≡ false → holds call (recordIn s i) ≡ false
+  holds-other h = by-octets ∙ rw h (and-false (not (eqb (stateOctet s i) 0)))
 
--- a call is all of its sixteen octets
-pub whole-call : (call : List ℕ) → length call ≡ 16 → take 16 (drop 0 call) ≡ call
-whole-call call h = take-all 16 call (omega arith)
+-- a call is all of its octets
+pub whole-call : (call : List ℕ) → length call ≡ callOctets → take callOctets (drop 0 call) ≡ call
+whole-call call h = take-all callOctets call (omega arith)

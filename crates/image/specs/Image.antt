@@ -1,23 +1,46 @@
 -- The table image (document 01, "Image: per place 21 octets, place 1 first: state, call, connection, count, the last two high octet
 -- first."; document 02, Q-4: "The image grows by one octet per place, after the count, to 2,112."): reading and writing it, with refusal 25,
--- and a record put anew in it. Place i, counted from 0, starts at i * 22, and its rank stands 21 octets after its start.
--- Assumes nothing.
+-- and a record put anew in it. Places are counted from 0 here, as indexes are.
 use mathlib.Core.Path.{_≡_}
 use mathlib.Core.Bool.{Bool, true, false, cond, _&&_}
 use mathlib.Core.List.{List, [], _∷_, _++_}
-use Prim.Native.Nat.{ℕ, zero, suc, _+_, _*_, _/_, _%_, _<_}
-use lib.Dec.{eqb, ltb}
+use Prim.Native.Nat.{ℕ, _+_, _*_, _/_, _%_, _<_}
+use lib.Dec.{eqb}
 use lib.ListN.{length, getD, set, take, drop}
 use lib.Seq.{sets}
-use Rattle.table.specs.declared.State.{State}
-use Rattle.table.specs.declared.State.the-variants.{Free, ParkWaiting, LineWaiting, Requested, RemoteRequested, HandedOver}
+use Rattle.laws.specs.Lists.{below, listed}
 use Rattle.table.specs.declared.Record.{Record}
 use Rattle.table.specs.declared.Table.{Table}
-use Rattle.table.specs.declared.Side.{Side}
-use Rattle.table.specs.Places.{stateNumber, isFree, sideAt, emptyTable, recordAt}
+use Rattle.table.specs.Places.{stateNumber, isFree, isState, stateOf, placeCount, sideAt, callOctets, emptyTable, recordAt}
 use Rattle.table.specs.Sound.{isSound}
-use Rattle.table.specs.Ranks.{callsOn, lowered}
+use Rattle.table.specs.Ranks.{callsOn, closedUp}
 use Rattle.image.specs.declared.ReadImage.{ReadImage}
+
+-- ---- how large it is
+
+-- "per place 21 octets": a state octet, the call, and two octets each for connection and count
+abbrev pub connectionOffset : ℕ
+connectionOffset = 1 + callOctets
+
+abbrev pub countOffset : ℕ
+countOffset = connectionOffset + 2
+
+abbrev pub recordOctets : ℕ
+recordOctets = countOffset + 2
+
+-- and by Q-4 the rank
+abbrev pub placeOctets : ℕ
+placeOctets = recordOctets + 1
+
+abbrev pub imageOctets : ℕ
+imageOctets = placeCount * placeOctets
+
+-- where a place starts, and where its rank stands
+abbrev pub placeStart : ℕ → ℕ
+placeStart i = i * placeOctets
+
+abbrev pub rankIndex : ℕ → ℕ
+rankIndex i = placeStart i + recordOctets
 
 -- ---- writing
 
@@ -25,7 +48,7 @@ use Rattle.image.specs.declared.ReadImage.{ReadImage}
 abbrev pub pairOf : ℕ → List ℕ
 pairOf n = (n / 256) ∷ (n % 256) ∷ []
 
--- the 21 octets of a record
+-- the octets of a record
 unfoldable pub octetsOf : Record → List ℕ
 octetsOf r = (stateNumber (r .state) ∷ r .call) ++ (pairOf (r .connection .0) ++ pairOf (r .count .0))
 
@@ -38,15 +61,15 @@ octetsOfAll (r ∷ rs) (k ∷ ks) = octetsOf r ++ (k ∷ octetsOfAll rs ks)
 abbrev pub imageOf : Table → List ℕ
 imageOf t = octetsOfAll (t .places) (t .ranks)
 
--- What the types say of a table: 96 places and ranks, 16 octets in each call. No bound of an octet or of a number is needed.
+-- What the types say of a table: how many places, ranks and octets of a call there are. No bound of an octet or of a number is needed.
 pub record Fit (t : Table) : Type 0 where
-  pub size : length (t .places) ≡ 96
-  pub wide : length (t .ranks) ≡ 96
-  pub calls : (i : ℕ) → i < 96 → length (recordAt t i .call) ≡ 16
+  pub size : length (t .places) ≡ placeCount
+  pub wide : length (t .ranks) ≡ placeCount
+  pub calls : (i : ℕ) → i < placeCount → length (recordAt t i .call) ≡ callOctets
 
 -- "Writing refused by 25 (an unsound table, or a buffer not 2,016 octets)", which Q-4 makes 2,112
 abbrev pub isWritten : Table → List ℕ → Bool
-isWritten t buffer = eqb (length buffer) 2112 && isSound t
+isWritten t buffer = eqb (length buffer) imageOctets && isSound t
 
 -- 0, or the refusal
 abbrev pub writtenNumber : Table → List ℕ → ℕ
@@ -58,71 +81,56 @@ written t buffer = cond (isWritten t buffer) (imageOf t) buffer
 
 -- ---- reading
 
--- the state of a state octet below 6
-abbrev pub stateOf : ℕ → State
-stateOf n =
-    cond (eqb n 0) Free
-    (cond (eqb n 1) ParkWaiting
-    (cond (eqb n 2) LineWaiting
-    (cond (eqb n 3) Requested
-    (cond (eqb n 4) RemoteRequested HandedOver))))
-
 -- the two octets at i, high octet first
 abbrev pub pairAt : List ℕ → ℕ → ℕ
 pairAt s i = getD s i 0 * 256 + getD s (i + 1) 0
 
--- the record that stands at i: state, call, connection, count
+-- the record that stands at octet i: state, call, connection, count
 unfoldable pub recordFrom : List ℕ → ℕ → Record
 recordFrom s i = record {
   state = stateOf (getD s i 0);
-  call = take 16 (drop (i + 1) s);
-  connection = record { 0 = pairAt s (i + 17) };
-  count = record { 0 = pairAt s (i + 19) };
+  call = take callOctets (drop (i + 1) s);
+  connection = record { 0 = pairAt s (i + connectionOffset) };
+  count = record { 0 = pairAt s (i + countOffset) };
 }
 
--- the records of n places, the first of which starts at i
-unfoldable pub recordsFrom : List ℕ → ℕ → ℕ → List Record
-recordsFrom s i zero = []
-recordsFrom s i (suc n) = recordFrom s i ∷ recordsFrom s (i + 22) n
+-- the state octet, the record and the rank of a place
+abbrev pub stateOctet : List ℕ → ℕ → ℕ
+stateOctet s i = getD s (placeStart i) 0
 
--- their ranks
-unfoldable pub ranksFrom : List ℕ → ℕ → ℕ → List ℕ
-ranksFrom s i zero = []
-ranksFrom s i (suc n) = getD s (i + 21) 0 ∷ ranksFrom s (i + 22) n
+abbrev pub recordIn : List ℕ → ℕ → Record
+recordIn s i = recordFrom s (placeStart i)
 
--- none of their state octets is above 5
-unfoldable pub statesFit : List ℕ → ℕ → ℕ → Bool
-statesFit s i zero = true
-statesFit s i (suc n) = ltb (getD s i 0) 6 && statesFit s (i + 22) n
+abbrev pub rankOctet : List ℕ → ℕ → ℕ
+rankOctet s i = getD s (rankIndex i) 0
 
 abbrev pub tableFrom : List ℕ → Table
-tableFrom s = record { places = recordsFrom s 0 96; ranks = ranksFrom s 0 96 }
+tableFrom s = record { places = listed (recordIn s) 0 placeCount; ranks = listed (rankOctet s) 0 placeCount }
 
--- "image not 2,016 octets, or table not sound", and by Q-4 "25 reads the new size and the rank rule"; a state that is none is not sound
-abbrev pub isRead : List ℕ → Bool
-isRead s = eqb (length s) 2112 && (statesFit s 0 96 && isSound (tableFrom s))
+-- a state octet that is the number of no state is not sound
+abbrev pub statesFit : List ℕ → Bool
+statesFit s = below (λ i. isState (stateOctet s i)) placeCount
+
+-- the octets of an image's length are those of a sound table
+abbrev pub placesSound : List ℕ → Bool
+placesSound s = statesFit s && isSound (tableFrom s)
+
+-- "image not 2,016 octets, or table not sound", and by Q-4 "25 reads the new size and the rank rule"
+abbrev pub isSoundImage : List ℕ → Bool
+isSoundImage s = eqb (length s) imageOctets && placesSound s
 
 -- "Reading a refused image gives the empty table"
 abbrev pub readImage : List ℕ → ReadImage
-readImage s = cond (isRead s) (record { number = 0; table = tableFrom s }) (record { number = 25; table = emptyTable })
+readImage s = cond (isSoundImage s) (record { number = 0; table = tableFrom s }) (record { number = 25; table = emptyTable })
 
 -- ---- a record put anew, in an image of the right length: what `put` does to a table, done to its octets
-
--- the rank octet of place i
-abbrev pub rankOctet : List ℕ → ℕ → ℕ
-rankOctet s i = getD s (i * 22 + 21) 0
-
--- the image, the ranks of its first n places lowered, when the place with rank k of side a is freed
-unfoldable pub closedUpIn : Side → ℕ → ℕ → List ℕ → List ℕ
-closedUpIn a k zero s = s
-closedUpIn a k (suc n) s = set (closedUpIn a k n s) (n * 22 + 21) (lowered a k n (rankOctet s n))
 
 -- the image with the ranks that it has when place i, free or not, becomes free or not
 abbrev pub rerankedIn : List ℕ → ℕ → Bool → Bool → List ℕ
 rerankedIn s i true true = s
-rerankedIn s i true false = set s (i * 22 + 21) (callsOn (tableFrom s) (sideAt i) + 1)
-rerankedIn s i false true = set (closedUpIn (sideAt i) (rankOctet s i) 96 s) (i * 22 + 21) 0
+rerankedIn s i true false = set s (rankIndex i) (callsOn (tableFrom s) (sideAt i) + 1)
+rerankedIn s i false true = set (closedUp rankIndex (sideAt i) (rankOctet s i) placeCount s) (rankIndex i) 0
 rerankedIn s i false false = s
 
 abbrev pub placePut : ℕ → Record → List ℕ → List ℕ
-placePut i r s = sets (rerankedIn s i (isFree (recordFrom s (i * 22) .state)) (isFree (r .state))) (i * 22) (octetsOf r)
+placePut i r s = sets (rerankedIn s i (isFree (recordIn s i .state)) (isFree (r .state))) (placeStart i) (octetsOf r)

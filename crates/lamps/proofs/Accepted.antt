@@ -1,6 +1,5 @@
 -- An event as the lamps see it: it is refused, and nothing is sent; or it is done at one place, and what is sent goes by the move of that place, of
 -- which there are five (`Move`, crate `step`). All that is promised of the lamps goes by these cases.
--- Assumes nothing.
 use mathlib.Core.Path.{_≡_, refl, sym, ap, _∙_}
 use mathlib.Core.Bool.{Bool, true, false, cond, _||_}
 use Prim.Native.Nat.{ℕ, _+_, _-_, _≤_, _<_}
@@ -13,7 +12,7 @@ use Rattle.table.specs.declared.State.the-variants.{Free, ParkWaiting, LineWait
 use Rattle.table.specs.declared.Side.the-variants.{Position, Line}
 use Rattle.table.specs.declared.Table.{Table}
 use Rattle.table.specs.declared.Place.{Place}
-use Rattle.table.specs.Places.{stateNumber, isFree, placeAt, recordAt}
+use Rattle.table.specs.Places.{stateNumber, isFree, placeAt, recordAt, placeCount, indexOf}
 use Rattle.events.specs.declared.Event.{Event}
 use Rattle.events.specs.declared.rule.Rule.{Rule}
 use Rattle.events.specs.declared.rule.Rule.the-variants.{Start, Unknown}
@@ -22,13 +21,11 @@ use Rattle.events.specs.declared.rule.Signal.{Signal}
 use Rattle.events.specs.Rule.{ruleOf}
 use Rattle.events.proofs.Refusals.{refused-not-0}
 use Rattle.step.specs.declared.Step.{Step}
-use Rattle.step.specs.Aim.{indexOf}
 use Rattle.step.specs.Step.{stepOf}
 use Rattle.step.specs.Promises.{Full, offered, Move, starts, goes-on, hands-over, ends, is-left, AtOnePlace}
-use Rattle.step.proofs.Aims.{less-one, same-index}
+use Rattle.table.proofs.Sides.{less-one, same-index, place-index}
 use Rattle.step.proofs.Stepped.{Stepped, kept, begun, ended, went-on, stepped}
 use Rattle.step.proofs.Promises.{refusal-keeps, accepted-at-one-place}
-use Rattle.stays.proofs.OneTurn.{place-index}
 use Rattle.lamps.specs.declared.members.Indication.the-variants.{On, Off}
 use Rattle.lamps.specs.declared.members.Lamps.{Lamps}
 use Rattle.lamps.specs.declared.notice.Asks.{Asks}
@@ -41,18 +38,18 @@ use Rattle.lamps.specs.Served.{litOf}
 -- the number of a place, and its index
 pub record Inside (p : Place) : Type 0 where
   pub from-1 : 1 ≤ p .0
-  pub to-96 : p .0 - 1 < 96
+  pub to-placeCount : p .0 - 1 < placeCount
   pub index : p .0 - 1 ≡ indexOf (p .0)
 
 -- the number of the place at an index is one above it
-pub place-number : (i : ℕ) → i < 96 → placeAt i .0 ≡ i + 1
-place-number i h = let in-table : ltb i 96 ≡ true = lt-ltb i 96 h in rw in-table
+pub place-number : (i : ℕ) → i < placeCount → placeAt i .0 ≡ i + 1
+place-number i h = let in-table : ltb i placeCount ≡ true = lt-ltb i placeCount h in rw in-table
 
 pub accepted-inside : (t : Table) (e : Event) (s : Step) → Full t → s ≡ stepOf t e → s .answer .number ≡ 0 → Inside (s .answer .place)
 accepted-inside t e s full q h =
     let x = accepted-at-one-place t e full (rw q at h) in
     let number : s .answer .place .0 ≡ x .index + 1 = ap (λ (u : Step). u .answer .place .0) q ∙ ap (λ (p : Place). p .0) (x .place) ∙ place-number (x .index) (x .inside) in
-    record { from-1 = omega arith; to-96 = omega (arith, x .inside); index = less-one (s .answer .place .0) (omega arith) }
+    record { from-1 = omega arith; to-placeCount = omega (arith, x .inside); index = less-one (s .answer .place .0) (omega arith) }
 
 -- ---- which events start a stay
 

@@ -1,7 +1,6 @@
 -- Along a run: the stays of demand 3 are built beside it (`staysBy`), the table keeps the invariant of that crate and the lamps their length (`Good`).
 -- An accepted event makes a stay anew or makes one longer (`Grown`), and so a number of each input that is the growth of a number of the stays adds
 -- up to it (`adds-up`).
--- Assumes nothing.
 use mathlib.Core.Path.{_≡_, refl, sym, ap, _∙_, subst}
 use mathlib.Core.Bool.{Bool, true, false, cond, _||_}
 use mathlib.Core.List.{List, [], _∷_, _++_}
@@ -17,15 +16,13 @@ use Rattle.table.specs.declared.Record.{Record}
 use Rattle.table.specs.declared.Table.{Table}
 use Rattle.table.specs.declared.Found.{Found}
 use Rattle.table.specs.declared.Found.the-variants.{At, Nothing}
-use Rattle.table.specs.Places.{stateNumber, isFree, freeRecord, recordAt}
+use Rattle.table.specs.Places.{stateNumber, isFree, freeRecord, recordAt, placeCount, indexOf}
 use Rattle.table.specs.Search.{holds}
 use Rattle.table.proofs.Calls.{holds-same, holds-occupied}
 use Rattle.events.specs.declared.Event.{Event}
 use Rattle.events.specs.declared.Answer.{Answer}
-use Rattle.step.specs.Aim.{indexOf}
 use Rattle.step.specs.Step.{stepOf}
 use Rattle.step.specs.Promises.{Full, AtOnePlace}
-use Rattle.step.proofs.Aims.{free-number}
 use Rattle.stays.specs.Stays.{Mark, starts, goes-on, ends, Stays, none, add, keep, eventsAt, stays, run}
 use Rattle.stays.specs.Stays as Fold
 use Rattle.stays.specs.ParkTable.{machine}
@@ -37,7 +34,7 @@ use Rattle.stays.proofs.Turned.{Turned, at-start, at-going, at-end, stays-spent
 use Rattle.stays.proofs.TableLaws.{laws, read}
 use Rattle.stays.proofs.EachStay.{answer-of}
 use Rattle.stays.proofs.Requester.{part-agrees}
-use Rattle.stays.proofs.OneTurn.{place-index}
+use Rattle.table.proofs.Sides.{place-index}
 use Rattle.stays.proofs.Weights.{weight, ended-weight, weight-starts, weight-goes-on, weight-ends, ended-snoc}
 use Rattle.lamps.specs.declared.Endpoint.{Endpoint}
 use Rattle.lamps.specs.declared.members.Lamps.{Lamps}
@@ -77,7 +74,7 @@ stays-step st s (reply r) xs = refl
 
 pub record Good (s : Endpoint) (st : Stays Act) : Type 0 where
   pub inv : Inv machine laws (s .table) st
-  pub wide : length (s .lamps .places) ≡ 96
+  pub wide : length (s .lamps .places) ≡ placeCount
 
 pub full : {s : Endpoint} {st : Stays Act} → Good s st → Full (s .table)
 full g = g .inv .shows .1 .full
@@ -112,7 +109,7 @@ good-final s st g [] = g
 good-final s st g (x ∷ xs) = subst (Good (final s (x ∷ xs))) (sym (stays-step st s x xs)) (good-final (after s x) (staysBy st s x) (good-after g x) xs)
 
 pub good-start : Good start none
-good-start = record { inv = inv-none machine laws; wide = length-replicate 96 darkLamp }
+good-start = record { inv = inv-none machine laws; wide = length-replicate placeCount darkLamp }
 
 -- ---- a stay begins, or has one event more
 
@@ -206,7 +203,7 @@ module _ {s : Endpoint} {st : Stays Act} (g : Good s st) (e : Event) (k : eqb (s
 
   -- the state of the answer is 0 exactly where the record after it is free
   freed : eqb (act .answer .state) 0 ≡ isFree (taken .0 .state)
-  freed = ap (λ (n : ℕ). eqb n 0) (answer-of turn .2) ∙ sym (free-number (taken .0 .state))
+  freed = ap (λ (n : ℕ). eqb n 0) (answer-of turn .2)
 
   grown-at : (m : Mark) → machine .mark act ≡ m → Grown st (add m at act st) act (recordAt (s .table) at .state)
   grown-at starts q =

@@ -1,5 +1,4 @@
 -- Clause 7.6 by place and member: a request changes every member at its place and none elsewhere, a reply one member at one place.
--- Assumes nothing.
 use mathlib.Core.Path.{_≡_, refl, sym, ap, _∙_, subst}
 use mathlib.Core.Bool.{Bool, true, false, cond}
 use mathlib.Core.List.{List, [], _∷_}
@@ -12,7 +11,7 @@ use lib.Seq.{getD-set-same, getD-set-other}
 use borrow.Author.Tests.{eq-eqb, ne-eqb}
 use Rattle.table.specs.declared.Found.{Found}
 use Rattle.table.specs.declared.Found.the-variants.{At, Nothing}
-use Rattle.table.specs.Places.{placeAt}
+use Rattle.table.specs.Places.{placeAt, placeCount}
 use Rattle.events.specs.declared.Answer.{Answer}
 use Rattle.events.specs.Turn.{up}
 use Rattle.step.specs.Step.{stepOf}
@@ -57,7 +56,7 @@ none-asked l i m =
     let none = either-way (eqb 0 (i + 1)) (getD (replicate 8 0) (m - 1) 0) (getD-free 0 8 (m - 1)) in
     record { state = refl; started = none; stopped = none }
 
-module _ (l : Lamps) (wide : length (l .places) ≡ 96) (a : Answer) (n : Indication) (i j m : ℕ) (inside : j < 96) (at : a .place ≡ placeAt j) (who : isMember m ≡ true) where
+module _ (l : Lamps) (wide : length (l .places) ≡ placeCount) (a : Answer) (n : Indication) (i j m : ℕ) (inside : j < placeCount) (at : a .place ≡ placeAt j) (who : isMember m ≡ true) where
   abbrev new : Lamp
   new = newLamp n (a .call) (up (l .last))
 
@@ -87,7 +86,7 @@ module _ (l : Lamps) (wide : length (l .places) ≡ 96) (a : Answer) (n : Indica
             stopped = rw other;
           }
 
-lit-asked : (l : Lamps) → length (l .places) ≡ 96 → (a : Answer) (asks : Asks) (i j m : ℕ) → j < 96 → a .place ≡ placeAt j → isMember m ≡ true → Asking l (litBy l j a asks) i m
+lit-asked : (l : Lamps) → length (l .places) ≡ placeCount → (a : Answer) (asks : Asks) (i j m : ℕ) → j < placeCount → a .place ≡ placeAt j → isMember m ≡ true → Asking l (litBy l j a asks) i m
 lit-asked l wide a NoOne i j m inside at who = none-asked l i m
 lit-asked l wide a (Each n) i j m inside at who = all-asked l wide a n i j m inside at who
 
@@ -102,8 +101,8 @@ cleared [] i = refl
 cleared (b ∷ bs) zero = refl
 cleared (b ∷ bs) (suc i) = cleared bs i
 
-module _ (l : Lamps) (wide : length (l .places) ≡ 96) (r : Reply) (i m : ℕ) (who : isMember m ≡ true) (replier : isMember (r .member) ≡ true) where
-  module _ (j : ℕ) (inside : j < 96) where
+module _ (l : Lamps) (wide : length (l .places) ≡ placeCount) (r : Reply) (i m : ℕ) (who : isMember m ≡ true) (replier : isMember (r .member) ≡ true) where
+  module _ (j : ℕ) (inside : j < placeCount) where
     abbrev left : Lamp
     left = replied (lampAt l j) (r .member)
 
@@ -132,7 +131,7 @@ module _ (l : Lamps) (wide : length (l .places) ≡ 96) (r : Reply) (i m : ℕ) 
   found-replies (At j) e = one-replies j (pending-hit l wide r j e .0)
   found-replies Nothing e = record { state = refl; stopped = refl }
 
-reply-follows : (l : Lamps) → length (l .places) ≡ 96 → (r : Reply) (i m : ℕ) → isMember m ≡ true → Replying l r (settledOf l r) i m
+reply-follows : (l : Lamps) → length (l .places) ≡ placeCount → (r : Reply) (i m : ℕ) → isMember m ≡ true → Replying l r (settledOf l r) i m
 reply-follows l wide r i m who = by (isMember (r .member)) refl
   where
     by : (b : Bool) → isMember (r .member) ≡ b → Replying l r (cond b (settledBy l r (findPending r 0 (l .places))) (refusedReply l 31)) i m

@@ -1,11 +1,11 @@
 -- T4 and T5: a host that starts and stops what the answers say has running, for each place and member, exactly the timer of its state. At each input the
 -- clause says which timer stops and which starts, and one look at its three cases does the rest.
--- Assumes nothing.
 use mathlib.Core.Path.{_≡_, refl, sym, ap, _∙_}
 use mathlib.Core.Bool.{true, false}
 use mathlib.Core.List.{List, [], _∷_}
 use Prim.Native.Nat.{ℕ, _-_, _<_}
 use lib.ListN.{getD-replicate}
+use Rattle.table.specs.Places.{placeCount}
 use Rattle.stays.specs.Stays.{Stays, none}
 use Rattle.stays.specs.Demand.{Act}
 use Rattle.stays.proofs.Part.{getD-free}
@@ -38,7 +38,7 @@ ticks nothing x = by (x .gp)
     by NotifyOnRequ = refl
     by NotifyOffRequ = refl
 
-module _ (i m : ℕ) (inside : i < 96) (who : isMember m ≡ true) where
+module _ (i m : ℕ) (inside : i < placeCount) (who : isMember m ≡ true) where
   runs : (s : Endpoint) (st : Stays Act) → Good s st → (xs : List Input) (now : ℕ) → now ≡ timerIn (memberAt (s .lamps) i m .gp)
       → clock s xs i m now ≡ timerIn (memberAt (final s xs .lamps) i m .gp)
   runs s st g [] now q = q
@@ -50,6 +50,6 @@ module _ (i m : ℕ) (inside : i < 96) (who : isMember m ≡ true) where
 
 pub timers-run : TimersRun
 timers-run xs i m inside who =
-    let dark : memberAt (start .lamps) i m .gp ≡ gpOf darkLamp m = ap (λ (x : Lamp). gpOf x m) (getD-replicate 96 i darkLamp blankLamp inside) in
+    let dark : memberAt (start .lamps) i m .gp ≡ gpOf darkLamp m = ap (λ (x : Lamp). gpOf x m) (getD-replicate placeCount i darkLamp blankLamp inside) in
     let none-pending = getD-free false 8 (m - 1) in
     runs i m inside who start none good-start xs 0 (sym (ap timerIn dark ∙ rw none-pending))

@@ -1,6 +1,5 @@
 -- One On for every stay begun and one Off for every stay ended or handed over; begun, ended and handed over, counted from the answers. Each is the
 -- growth of a number of the stays by one event (`Along`), by the five moves.
--- Assumes nothing.
 use mathlib.Core.Path.{_≡_, refl, sym, ap, _∙_}
 use mathlib.Core.Bool.{Bool, true, false, cond, _&&_, _||_}
 use mathlib.Core.List.{List, [], _∷_, _++_, map}

@@ -1,6 +1,5 @@
 -- Whose request a lamp shows: On exactly as long as the call at the place is on offer, with the call that is held there, and of the stay that was last at
 -- the place. An event changes the lamp and the stay of its own place alone, by the five moves; a reply changes neither On or Off nor the call.
--- Assumes nothing.
 use mathlib.Core.Path.{_≡_, refl, sym, ap, _∙_, subst}
 use mathlib.Core.Logic.{_≢_}
 use mathlib.Core.Bool.{Bool, true, false, not, cond}
@@ -18,13 +17,13 @@ use Rattle.table.specs.declared.Record.{Record}
 use Rattle.table.specs.declared.Table.{Table}
 use Rattle.table.specs.declared.Found.{Found}
 use Rattle.table.specs.declared.Found.the-variants.{At, Nothing}
-use Rattle.table.specs.Places.{stateNumber, isFree, placeAt, freeRecord, blank, emptyTable, recordAt}
+use Rattle.table.specs.Places.{stateNumber, isFree, placeAt, freeRecord, blank, emptyTable, recordAt, placeCount}
 use Rattle.events.specs.declared.Event.{Event}
 use Rattle.events.specs.declared.Answer.{Answer}
 use Rattle.events.specs.Turn.{up}
 use Rattle.step.specs.Step.{stepOf}
 use Rattle.step.specs.Promises.{offered, Move, starts, goes-on, hands-over, ends, is-left}
-use Rattle.step.proofs.Aims.{same-index}
+use Rattle.table.proofs.Sides.{same-index}
 use Rattle.stays.specs.Stays.{Stays, none, keep, run}
 use Rattle.stays.specs.ParkTable.{machine}
 use Rattle.stays.specs.Demand.{Act}
@@ -136,7 +135,7 @@ FitsAt s i last = Fits (lampAt (s .lamps) i) (recordAt (s .table) i) last
 
 -- ---- one input
 
-module _ (i : ℕ) (inside : i < 96) (last : LastStay) (s : Endpoint) (st : Stays Act) (good : Good s st) (fits : FitsAt s i last) where
+module _ (i : ℕ) (inside : i < placeCount) (last : LastStay) (s : Endpoint) (st : Stays Act) (good : Good s st) (fits : FitsAt s i last) where
   event-fits : (e : Event) → Came (s .lamps) (s .table) e (stepOf (s .table) e) → FitsAt (after s (event e)) i (lastBy i last s (event e))
   event-fits e (refused q same lit) = rw (lit, same, q) fits
   event-fits e (done x q from lit) = rw (lit, q) (by (ℕ-discrete i (x .index)))
@@ -169,19 +168,19 @@ module _ (i : ℕ) (inside : i < 96) (last : LastStay) (s : Endpoint) (st : Stay
 
 -- ---- along a run
 
-run-fits : (i : ℕ) → i < 96 → (s : Endpoint) (st : Stays Act) → Good s st → (last : LastStay) → FitsAt s i last → (xs : List Input)
+run-fits : (i : ℕ) → i < placeCount → (s : Endpoint) (st : Stays Act) → Good s st → (last : LastStay) → FitsAt s i last → (xs : List Input)
     → FitsAt (final s xs) i (lastStay i last (run machine (s .table) (eventsIn xs)))
 run-fits i inside s st good last fits [] = fits
 run-fits i inside s st good last fits (x ∷ xs) =
     subst (FitsAt (final s (x ∷ xs)) i) (sym (last-step i last s x xs))
     (run-fits i inside (after s x) _ (good-after good x) (lastBy i last s x) (input-fits i inside last s st good fits x) xs)
 
-start-fits : (i : ℕ) → i < 96 → FitsAt start i noStay
+start-fits : (i : ℕ) → i < placeCount → FitsAt start i noStay
 start-fits i inside =
-    rw (getD-replicate 96 i darkLamp blankLamp inside, getD-replicate 96 i freeRecord blank inside)
+    rw (getD-replicate placeCount i darkLamp blankLamp inside, getD-replicate placeCount i freeRecord blank inside)
     (record { offered-on = refl; held-call = λ h. never (sym h); over = refl; call = refl })
 
-all-fit : (xs : List Input) (i : ℕ) → i < 96 → FitsAt (final start xs) i (lastStay i noStay (run machine emptyTable (eventsIn xs)))
+all-fit : (xs : List Input) (i : ℕ) → i < placeCount → FitsAt (final start xs) i (lastStay i noStay (run machine emptyTable (eventsIn xs)))
 all-fit xs i inside = run-fits i inside start none good-start noStay (start-fits i inside) xs
 
 pub of-last-stay : IsOfLastStay

@@ -1,5 +1,4 @@
 -- Numbers from 1 to a bound, and an array that is filled from another, element by element.
--- Assumes nothing.
 use mathlib.Core.Path.{_≡_, sym, ap, ap₂, _∙_}
 use mathlib.Core.Bool.{true}
 use mathlib.Core.List.{List, [], _∷_, _++_, map, map-append}

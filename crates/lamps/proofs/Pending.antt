@@ -1,6 +1,5 @@
 -- The search for a pending request: one step of it and its end; that what is found is the lowest place that passes the test, and that none passes
 -- where none is found.
--- Assumes nothing.
 use mathlib.Core.Path.{_≡_, refl, sym, _∙_, subst}
 use mathlib.Core.Bool.{Bool, true, false, cond}
 use mathlib.Core.List.{List, [], _∷_}
@@ -11,6 +10,7 @@ use native.Mathlib.Omega.{arith}
 use lib.ListN.{length, drop, getD, drop-of-length-le}
 use lib.Seq.{drop-cons}
 use Rattle.table.specs.declared.Found.the-variants.{At, Nothing}
+use Rattle.table.specs.Places.{placeCount}
 use Rattle.lamps.specs.declared.members.Lamp.{Lamp}
 use Rattle.lamps.specs.declared.members.Lamps.{Lamps}
 use Rattle.lamps.specs.declared.reply.Reply.{Reply}
@@ -60,13 +60,13 @@ miss r i (x ∷ xs) e k h = by (isPending r x) refl e (λ g m w. miss r (i + 1) 
     by false q g later (suc k) h = later g k (le-of-suc-le-suc h)
 
 -- the same of the lamps
-module _ (l : Lamps) (size : length (l .places) ≡ 96) (r : Reply) where
+module _ (l : Lamps) (size : length (l .places) ≡ placeCount) (r : Reply) where
   pub pending-hit : (j : ℕ) → findPending r 0 (l .places) ≡ At j
-      → (j < 96) × (isPending r (lampAt l j) ≡ true) × ((m : ℕ) → m < j → isPending r (lampAt l m) ≡ false)
+      → (j < placeCount) × (isPending r (lampAt l j) ≡ true) × ((m : ℕ) → m < j → isPending r (lampAt l m) ≡ false)
   pending-hit j e =
       let h = hit r 0 (l .places) j e in
       let here : h .k ≡ j = sym (h .at ∙ zero-add (h .k)) in
       (omega (arith, h .inside), subst (λ (n : ℕ). isPending r (lampAt l n) ≡ true) here (h .passes), λ m w. h .first m (omega arith))
 
-  pub pending-miss : findPending r 0 (l .places) ≡ Nothing → (j : ℕ) → j < 96 → isPending r (lampAt l j) ≡ false
+  pub pending-miss : findPending r 0 (l .places) ≡ Nothing → (j : ℕ) → j < placeCount → isPending r (lampAt l j) ≡ false
   pending-miss e j h = miss r 0 (l .places) e j (omega arith)

@@ -1,5 +1,4 @@
 -- THE THEOREMS of `specs/Clause.antt` and `specs/Promises.antt`, by their names there: those that are short, and the others where they are proved.
--- Assumes nothing.
 use mathlib.Core.Path.{_≡_, refl, sym, ap, _∙_, subst}
 use mathlib.Core.Bool.{Bool, true, false, cond}
 use mathlib.Core.List.{List, [], _∷_}

@@ -1,6 +1,5 @@
 -- Which replies are accepted: 31, 32 and 0 say exactly what the request says of them, and a refusal changes nothing. The test that the code runs is the
 -- four facts (`named-of-test`, `test-of-named`).
--- Assumes nothing.
 use mathlib.Core.Path.{_≡_, refl}
 use mathlib.Core.Logic.{inl, inr}
 use mathlib.Core.Bool.{Bool, true, false, _&&_}

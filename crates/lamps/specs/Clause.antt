@@ -1,12 +1,12 @@
 -- Clause 7.6 as it stands, for one member at one place: what can happen to it, the state that it goes to, and the timers. What is kept for all eight at
 -- once is seen here member by member, and what happens to a member is told from the answers alone. `FollowsClause` says that the lamps do nothing else.
--- Assumes nothing.
 use mathlib.Core.Path.{_≡_}
 use mathlib.Core.Bool.{Bool, true, cond, _&&_}
 use mathlib.Core.List.{List, [], _∷_}
 use Prim.Native.Nat.{ℕ, _+_, _-_, _<_}
 use lib.Dec.{eqb}
 use lib.ListN.{length, getD}
+use Rattle.table.specs.Places.{placeCount}
 use Rattle.step.specs.Promises.{Full}
 use Rattle.lamps.specs.declared.Endpoint.{Endpoint}
 use Rattle.lamps.specs.declared.members.Indication.{Indication}
@@ -92,7 +92,7 @@ stoppedAt s (reply r) i m = cond (settlesAt (settledOf (s .lamps) r) r i m) (set
 
 -- 96 places in the table and in the lamps; of an endpoint in code its types say so
 abbrev pub Sized : Endpoint → Type 0
-Sized s = Full (s .table) × (length (s .lamps .places) ≡ 96)
+Sized s = Full (s .table) × (length (s .lamps .places) ≡ placeCount)
 
 pub record Follows (s : Endpoint) (x : Input) (i m : ℕ) : Type 0 where
   pub state : memberAt (after s x .lamps) i m ≡ next (happens s x i m) (memberAt (s .lamps) i m)
@@ -101,7 +101,7 @@ pub record Follows (s : Endpoint) (x : Input) (i m : ℕ) : Type 0 where
 
 -- `follows-clause`: of every place and member, whatever the table and the lamps are
 abbrev pub FollowsClause : Type 0
-FollowsClause = (s : Endpoint) (x : Input) → Sized s → (i m : ℕ) → i < 96 → isMember m ≡ true → Follows s x i m
+FollowsClause = (s : Endpoint) (x : Input) → Sized s → (i m : ℕ) → i < placeCount → isMember m ≡ true → Follows s x i m
 
 -- ---- T4 and T5
 
@@ -116,4 +116,4 @@ clock s (x ∷ xs) i m now = clock (after s x) xs i m (clockAfter (stoppedAt s x
 
 -- `timers-run`: after any run T4 runs exactly in GP-NotifyOnRequ and T5 exactly in GP-NotifyOffRequ
 abbrev pub TimersRun : Type 0
-TimersRun = (xs : List Input) (i m : ℕ) → i < 96 → isMember m ≡ true → clock start xs i m 0 ≡ timerIn (memberAt (final start xs .lamps) i m .gp)
+TimersRun = (xs : List Input) (i m : ℕ) → i < placeCount → isMember m ≡ true → clock start xs i m 0 ≡ timerIn (memberAt (final start xs .lamps) i m .gp)

@@ -1,14 +1,12 @@
 -- What is kept of each place for the eight members (document 02, Q-5), and the state of a place and a member (H.450.5, 7.6 and 10.3.6). A place is
 -- counted from 1, and its index from 0; a member is counted from 1.
--- Assumes nothing.
 use mathlib.Core.Bool.{Bool, true, false, cond, _&&_}
 use mathlib.Core.List.{List, [], map}
 use Prim.Native.Nat.{ℕ, _-_}
 use lib.Dec.{leb}
 use lib.ListN.{getD, replicate}
 use Rattle.table.specs.declared.Place.{Place}
-use Rattle.table.specs.Places.{noCall, noInvoke}
-use Rattle.step.specs.Aim.{indexOf}
+use Rattle.table.specs.Places.{noCall, noInvoke, placeCount, indexOf}
 use Rattle.lamps.specs.declared.members.Indication.{Indication}
 use Rattle.lamps.specs.declared.members.Indication.the-variants.{On, Off}
 use Rattle.lamps.specs.declared.members.Gp.{Gp}
@@ -54,7 +52,7 @@ darkLamp = record { indication = Off; call = noCall; invoke = noInvoke; pending 
 
 -- "Requests to one member are numbered on over all places from 1": the number before the first is 0
 abbrev pub darkLamps : Lamps
-darkLamps = record { places = replicate 96 darkLamp; last = noInvoke }
+darkLamps = record { places = replicate placeCount darkLamp; last = noInvoke }
 
 -- ---- by place and member
 
@@ -75,4 +73,4 @@ isMember m = isOneTo 8 m
 
 -- THE STATE of a place and a member; GP-Idle where there is no such place or member
 abbrev pub gpAt : Lamps → Place → ℕ → Gp
-gpAt l p m = cond (isMember m && isOneTo 96 (p .0)) (gpOf (lampAt l (indexOf (p .0))) m) Idle
+gpAt l p m = cond (isMember m && isOneTo placeCount (p .0)) (gpOf (lampAt l (indexOf (p .0))) m) Idle

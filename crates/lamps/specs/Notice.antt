@@ -1,5 +1,4 @@
 -- What an accepted event sends to the members (document 02, Q-5; H.450.5, 7.6).
--- Assumes nothing.
 use mathlib.Core.Bool.{Bool, true, cond, _||_}
 use mathlib.Core.List.{List}
 use Prim.Native.Nat.{ℕ}

@@ -1,7 +1,6 @@
 -- What is promised of every run from the empty table: one page of statements, each proved under the name that stands beside it, in `proofs/`. The
 -- stays are those of demand 3 (crate `stays`), counted there. Every count is taken over the calls that pass a test, so that it is said of all calls
 -- together and of each call by itself.
--- Assumes nothing.
 use mathlib.Core.Path.{_≡_}
 use mathlib.Core.Logic.{_⊎_}
 use mathlib.Core.Bool.{Bool, true, false, not, cond, _&&_, _||_}
@@ -10,7 +9,7 @@ use Prim.Native.Nat.{ℕ, _+_, _<_, _%_, _^_}
 use lib.Dec.{eqb}
 use lib.ListN.{length}
 use Rattle.table.specs.declared.Table.{Table}
-use Rattle.table.specs.Places.{isFree, placeAt, noCall, emptyTable, recordAt}
+use Rattle.table.specs.Places.{isFree, placeAt, noCall, emptyTable, recordAt, placeCount}
 use Rattle.events.specs.declared.Event.{Event}
 use Rattle.events.specs.declared.Answer.{Answer}
 use Rattle.step.specs.Step.{stepOf}
@@ -128,12 +127,12 @@ pub record OfLastStay (xs : List Input) (i : ℕ) : Type 0 where
 
 -- `of-last-stay`
 abbrev pub IsOfLastStay : Type 0
-IsOfLastStay = (xs : List Input) (i : ℕ) → i < 96 → OfLastStay xs i
+IsOfLastStay = (xs : List Input) (i : ℕ) → i < placeCount → OfLastStay xs i
 
 -- `pending-off`: so a pending Off has the call of the stay that ended or was handed over there, and none is pending once the place is used again, since
 -- the stay that is last there then is not over
 abbrev pub PendingOff : Type 0
-PendingOff = (xs : List Input) (i m : ℕ) → i < 96 → gpOf (lampAt (final start xs .lamps) i) m ≡ NotifyOffRequ
+PendingOff = (xs : List Input) (i m : ℕ) → i < placeCount → gpOf (lampAt (final start xs .lamps) i) m ≡ NotifyOffRequ
     → (lastAt xs i .over ≡ true) × (lampAt (final start xs .lamps) i .call ≡ lastAt xs i .call)
 
 -- at any moment, beside the table itself
@@ -145,11 +144,11 @@ pub record Agrees (s : Endpoint) (i : ℕ) : Type 0 where
 
 -- `lamps-agree`
 abbrev pub LampsAgree : Type 0
-LampsAgree = (xs : List Input) (i : ℕ) → i < 96 → Agrees (final start xs) i
+LampsAgree = (xs : List Input) (i : ℕ) → i < placeCount → Agrees (final start xs) i
 
 -- `replaces`: "Off replaces a pending On ..; On for a new stay replaces a pending Off": what stood there before was the other
 abbrev pub Replaces : Type 0
-Replaces = (xs : List Input) (x : Input) (n : Indication) (i : ℕ) → i < 96 → noticeOf (final start xs) x .asks ≡ Each n
+Replaces = (xs : List Input) (x : Input) (n : Indication) (i : ℕ) → i < placeCount → noticeOf (final start xs) x .asks ≡ Each n
     → noticeOf (final start xs) x .place ≡ placeAt i → isOff (lampAt (final start xs .lamps) i .indication) ≡ not (isOff n)
 
 -- ---- which reply is accepted
@@ -164,7 +163,7 @@ pub record Named (r : Reply) (x : Lamp) : Type 0 where
 -- it is at this place, and at no lower one
 pub record Settles (l : Lamps) (r : Reply) : Type 0 where
   pub at : ℕ
-  pub inside : at < 96
+  pub inside : at < placeCount
   pub place : settledOf l r .place ≡ placeAt at
   pub named : Named r (lampAt l at)
   pub lowest : (j : ℕ) → j < at → Named r (lampAt l j) → ⊥
@@ -172,10 +171,10 @@ pub record Settles (l : Lamps) (r : Reply) : Type 0 where
 pub record RepliesRight (l : Lamps) (r : Reply) : Type 0 where
   pub done : settledOf l r .number ≡ 0 → (isMember (r .member) ≡ true) × Settles l r
   pub no-member : settledOf l r .number ≡ 31 → isMember (r .member) ≡ false
-  pub none-pending : settledOf l r .number ≡ 32 → (isMember (r .member) ≡ true) × ((j : ℕ) → j < 96 → Named r (lampAt l j) → ⊥)
+  pub none-pending : settledOf l r .number ≡ 32 → (isMember (r .member) ≡ true) × ((j : ℕ) → j < placeCount → Named r (lampAt l j) → ⊥)
   -- there is no other number, and a refusal changes nothing
   pub else : (settledOf l r .number ≡ 0 → ⊥) → ((settledOf l r .number ≡ 31) ⊎ (settledOf l r .number ≡ 32)) × (settledOf l r .lamps ≡ l)
 
 -- `replies-right`: of any lamps
 abbrev pub AreRepliesRight : Type 0
-AreRepliesRight = (l : Lamps) (r : Reply) → length (l .places) ≡ 96 → RepliesRight l r
+AreRepliesRight = (l : Lamps) (r : Reply) → length (l .places) ≡ placeCount → RepliesRight l r

@@ -1,7 +1,6 @@
 -- Responses and expiries (document 02, Q-5; H.450.5, 7.6): "On receipt of a groupIndicationOn Return Result, Return Error or Reject APDU, the served
 -- endpoint shall stop timer T4 and shall return to GP-Idle state.", and the same of Off and T5; "Expiry .. shall be treated the same as if a Reject
 -- APDU had been received."
--- Assumes nothing.
 use mathlib.Core.Bool.{Bool, false, cond, _&&_}
 use mathlib.Core.List.{List, [], _∷_}
 use Prim.Native.Nat.{ℕ, _+_, _-_}

@@ -1,5 +1,4 @@
 -- Whole runs of the served endpoint: events and replies in any order, refused ones among them, and what goes out.
--- Assumes nothing.
 use mathlib.Core.Bool.{Bool, true, false, cond, _&&_}
 use mathlib.Core.List.{List, [], _∷_}
 use Prim.Native.Nat.{ℕ, _+_}

@@ -1,14 +1,12 @@
 -- THE SERVED ENDPOINT: one event at table and lamps together (document 02, Q-5). The table's step is `stepOf`, and nothing of the lamps is in it.
--- Assumes nothing.
 use mathlib.Core.Bool.{cond}
 use Prim.Native.Nat.{ℕ}
 use lib.Dec.{eqb}
 use Rattle.table.specs.declared.Table.{Table}
-use Rattle.table.specs.Places.{emptyTable, recordAt}
+use Rattle.table.specs.Places.{emptyTable, recordAt, indexOf}
 use Rattle.events.specs.declared.Event.{Event}
 use Rattle.events.specs.declared.Answer.{Answer}
 use Rattle.step.specs.declared.Step.{Step}
-use Rattle.step.specs.Aim.{indexOf}
 use Rattle.step.specs.Step.{stepOf}
 use Rattle.lamps.specs.declared.Endpoint.{Endpoint}
 use Rattle.lamps.specs.declared.Told.{Told}

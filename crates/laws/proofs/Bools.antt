@@ -1,5 +1,4 @@
 -- Truth values: the two halves of `_&&_`, and the cases of a test on two numbers with the fact that each case gives.
--- Assumes nothing.
 use mathlib.Core.Path.{_≡_, refl, sym, _∙_}
 use mathlib.Core.Bool.{Bool, true, false, _&&_, false≢true}
 use mathlib.Core.Logic.{_⊎_, inl, inr}

@@ -1,6 +1,5 @@
 -- Lists of numbers as loops and writers see them: one turn over a slice, a part of a slice that runs to its end, and runs of stores (`sets`) at
 -- an index that moves on. A run is joined to the next one by `sets-append`.
--- Assumes nothing.
 use mathlib.Core.Path.{_≡_, sym, ap, ap₂, _∙_}
 use mathlib.Core.List.{List, [], _∷_, _++_, map, append-assoc, append-nil}
 use Prim.Native.Nat.{ℕ, suc, _+_, _-_, _≤_, _<_}

@@ -1,6 +1,5 @@
 -- How tight a contract is. A function's contract, as the check reads it (the generated `Reads.Post`), is a relation of its lifetimes,
 -- its arguments, its result and what stands in lent memory at its end.
--- Assumes nothing.
 use mathlib.Core.Path.{_≡_}
 
 -- two results that meet the contract, from the same arguments, are equal

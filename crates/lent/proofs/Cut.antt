@@ -1,6 +1,5 @@
 -- However a stream is cut into pieces, a session says to them what is answered to the whole stream. What a session keeps of a line is
 -- its first 63 octets, and a line is read as those are: with fewer they are the line, with more it is refused by 21.
--- Assumes nothing.
 use mathlib.Core.Path.{_≡_, refl, sym, ap, _∙_}
 use mathlib.Core.Bool.{Bool, true, false, cond}
 use mathlib.Core.List.{List, [], _∷_, _++_, append-assoc, append-nil}

@@ -1,6 +1,5 @@
 -- The loop of `feed`: between two lines of a piece, what is left of the piece decides what is said to all of it. It starts so, goes on so
 -- past each feed, and ends where no feed is left.
--- Assumes nothing.
 use mathlib.Core.Path.{_≡_, refl, sym, ap, _∙_}
 use mathlib.Core.List.{List, _++_}
 use Prim.Native.Nat.{ℕ, _+_, _*_, _/_, _<_, _≤_}

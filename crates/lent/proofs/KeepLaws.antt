@@ -1,6 +1,5 @@
 -- Keeping a line: where its feed is, what is kept of it as one run of stores, and what the kept octets are to a session. Then a whole line
 -- of a piece, up to its feed.
--- Assumes nothing.
 use mathlib.Core.Path.{_≡_, refl, sym, ap, _∙_}
 use mathlib.Core.Bool.{Bool, true, false, cond}
 use mathlib.Core.List.{List, [], _∷_, _++_}

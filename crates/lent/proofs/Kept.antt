@@ -1,7 +1,6 @@
 -- At the image of a sound table, what is done octet by octet is the step of the machine: the answer is its answer, and what is left is the
 -- image of its table. One record is put, and a record put in an image makes the image of the table with that record put (`place-put`). An image
 -- that was read is the image of its table (`image-written-back`), and a table by value is what is read from its image (`table-back`).
--- Assumes nothing.
 use mathlib.Core.Path.{_≡_, refl, sym, ap, _∙_}
 use mathlib.Core.Bool.{Bool, true, false, cond}
 use mathlib.Core.List.{List}
@@ -12,7 +11,7 @@ use borrow.Author.Tests.{eqb-true, eqb-false, ne-eqb}
 use Rattle.laws.proofs.Bools.{and-left, and-right}
 use Rattle.table.specs.declared.Record.{Record}
 use Rattle.table.specs.declared.Table.{Table}
-use Rattle.table.specs.Places.{sideAt, recordAt}
+use Rattle.table.specs.Places.{sideAt, recordAt, placeCount}
 use Rattle.table.specs.Ranks.{put}
 use Rattle.table.specs.Sound.{isSound}
 use Rattle.events.specs.declared.Event.{Event}
@@ -39,7 +38,7 @@ use Rattle.lines.specs.declared.ReadEvent.{ReadEvent}
 use Rattle.lines.specs.EventLine.{readLine}
 use Rattle.lent.specs.LineStep.{stepRead}
 use Rattle.lines.proofs.Ranged.{read-ranged}
-use Rattle.image.specs.Image.{Fit, imageOf, placePut, statesFit, tableFrom, isRead}
+use Rattle.image.specs.Image.{Fit, imageOf, placePut, statesFit, tableFrom, isSoundImage, imageOctets}
 use Rattle.image.proofs.Round.{table-back, fit-from, image-written-back}
 use Rattle.image.proofs.Puts.{place-put, put-fit}
 use Rattle.lent.specs.Lent.{stepOn, leftOn, writtenAt, leftFor, eventAnswer, eventImage}
@@ -63,7 +62,7 @@ module _ (e : Event) (i : ℕ) (r : Record) (given : length (e .call) ≡ 16) (h
 
 module _ (t : Table) (f : Fit t) (sound : isSound t ≡ true) (e : Event) (given : length (e .call) ≡ 16) where
   -- an accepted event's record, in its place
-  place-kept : (i : ℕ) (a : Acted) → i < 96 → length (a .after .call) ≡ 16
+  place-kept : (i : ℕ) (a : Acted) → i < placeCount → length (a .after .call) ≡ 16
       → (b : Bool) → cond b (placePut i (a .after) (imageOf t)) (imageOf t) ≡ cond b (imageOf (put t i (a .after))) (imageOf t)
   place-kept i a inside whole true = place-put t f i inside (a .after) whole
   place-kept i a inside whole false = refl
@@ -72,7 +71,7 @@ module _ (t : Table) (f : Fit t) (sound : isSound t ≡ true) (e : Event) (given
       → leftFor (imageOf t) e a ≡ cond (eqb (carriedOut k t e a .answer .number) 0) (imageOf (carriedOut k t e a .table)) (imageOf t)
   by-aim k rule (Nowhere w) q = rw (ne-eqb (refusalNumber w) 0 (refused-not-0 w))
   by-aim k rule (To i) q =
-      let inside : i < 96 = aim-inside t (f .size) k e i q in
+      let inside : i < placeCount = aim-inside t (f .size) k e i q in
       let r : Record = recordAt t i in
       ap (λ (u : Table). writtenAt (imageOf t) i (acted e i (recordAt u i))) (table-back t f)
       ∙ rw (← rule) (place-kept i (acted e i r) inside (acted-long e i r given (f .calls i inside)) (eqb (acted e i r .answer .number) 0))
@@ -99,7 +98,7 @@ module _ (t : Table) (f : Fit t) (sound : isSound t ≡ true) (e : Event) (given
   fit-at : (a : Aim) → aim (ruleOf (e .kind)) t e ≡ a → Fit (carriedOut (ruleOf (e .kind)) t e a .table)
   fit-at (Nowhere w) q = f
   fit-at (To i) q =
-      let inside : i < 96 = aim-inside t (f .size) (ruleOf (e .kind)) e i q in
+      let inside : i < placeCount = aim-inside t (f .size) (ruleOf (e .kind)) e i q in
       put-fit t f i inside (acted e i (recordAt t i) .after) (acted-long e i (recordAt t i) given (f .calls i inside))
 
   pub fit-after : Fit (stepOf t e .table)
@@ -113,15 +112,15 @@ module _ (t : Table) (f : Fit t) (sound : isSound t ≡ true) (e : Event) (given
 
 -- ---- at an image that is read
 
-module _ (image : List ℕ) (octets : (k : ℕ) → getD image k 0 < 256) (good : isRead image ≡ true) where
+module _ (image : List ℕ) (octets : (k : ℕ) → getD image k 0 < 256) (good : isSoundImage image ≡ true) where
   abbrev held : Table
   held = tableFrom image
 
-  pub image-long : length image ≡ 2112
-  image-long = eqb-true (length image) 2112 (and-left (eqb (length image) 2112) _ good)
+  pub image-long : length image ≡ imageOctets
+  image-long = eqb-true (length image) imageOctets (and-left (eqb (length image) imageOctets) _ good)
 
   pub image-sound : isSound held ≡ true
-  image-sound = and-right (statesFit image 0 96) _ (and-right (eqb (length image) 2112) _ good)
+  image-sound = and-right (statesFit image) _ (and-right (eqb (length image) imageOctets) _ good)
 
   written-back : imageOf held ≡ image
   written-back = image-written-back image (λ k h. octets k) good

@@ -1,6 +1,5 @@
 -- No answer to a line is longer than the longest that a step gives: that of a line which reads is one of a step, and that of any other line, or of
 -- any line at a refused image, is a number and zeros.
--- Assumes nothing.
 use mathlib.Core.Path.{_≡_, refl}
 use mathlib.Core.Bool.{Bool, true, false}
 use mathlib.Core.List.{List}
@@ -12,15 +11,15 @@ use lib.ListN.{length, getD}
 use borrow.Author.Tests.{eqb-true}
 use Rattle.laws.proofs.Bools.{and-left}
 use Rattle.table.specs.declared.Table.{Table}
-use Rattle.table.specs.Places.{blank}
+use Rattle.table.specs.Places.{placeCount, recordAt}
 use Rattle.lines.specs.declared.ReadEvent.{ReadEvent}
 use Rattle.lines.specs.AnswerLine.{answerLine}
 use Rattle.lines.specs.EventLine.{readLine}
 use Rattle.lines.proofs.Ranged.{Ranged, read-ranged}
 use Rattle.room.specs.Room.{TypedTable, longest}
 use Rattle.room.proofs.Room.{none-longer, number-short}
-use Rattle.image.specs.Image.{recordFrom, recordsFrom, tableFrom, isRead}
-use Rattle.image.proofs.Round.{fit-from}
+use Rattle.image.specs.Image.{connectionOffset, placeStart, imageOctets, recordFrom, tableFrom, isSoundImage}
+use Rattle.image.proofs.Round.{fit-from, record-at}
 use Rattle.lent.specs.LineStep.{stepRead, lineStep}
 use Rattle.lent.specs.Lent.{stepOn}
 
@@ -36,21 +35,20 @@ line-short t line typed = by (readLine line) (read-ranged line)
         on false q = rw q (number-short (r .number) (omega (arith, x .number)))
 
 -- two octets are a number of 16 bits
-connections-from : (n i : ℕ) (s : List ℕ) → ((k : ℕ) → getD s k 0 < 256) → (k : ℕ) → k < n → getD (recordsFrom s i n) k blank .connection .0 ≤ 65535
-unfolding recordsFrom recordFrom
-connections-from zero i s octets k h = absurd (not-suc-le-zero h)
-connections-from (suc n) i s octets zero h = omega (arith, octets (i + 17), octets (i + 17 + 1))
-connections-from (suc n) i s octets (suc k) h = connections-from n (i + 22) s octets k (le-of-suc-le-suc h)
+connection-from : (s : List ℕ) → ((k : ℕ) → getD s k 0 < 256) → (i : ℕ) → i < placeCount → recordAt (tableFrom s) i .connection .0 ≤ 65535
+unfolding recordFrom
+connection-from s octets i h =
+    rw (record-at s i h) (omega (arith, octets (placeStart i + connectionOffset), octets (placeStart i + connectionOffset + 1)))
 
-typed-from : (image : List ℕ) → ((k : ℕ) → getD image k 0 < 256) → length image ≡ 2112 → TypedTable (tableFrom image)
+typed-from : (image : List ℕ) → ((k : ℕ) → getD image k 0 < 256) → length image ≡ imageOctets → TypedTable (tableFrom image)
 typed-from image octets long =
     let fit = fit-from image long in
-    record { size = (fit .size, fit .wide); call = fit .calls; connection = connections-from 96 0 image octets }
+    record { size = (fit .size, fit .wide); call = fit .calls; connection = connection-from image octets }
 
 -- A LINE AT AN IMAGE
 pub on-short : (image line : List ℕ) → ((k : ℕ) → getD image k 0 < 256) → length (answerLine (stepOn image line .answer)) ≤ longest
-on-short image line octets = by (isRead image) refl
+on-short image line octets = by (isSoundImage image) refl
   where
-    by : (b : Bool) → isRead image ≡ b → length (answerLine (stepOn image line .answer)) ≤ longest
-    by true q = rw q (line-short (tableFrom image) line (typed-from image octets (eqb-true (length image) 2112 (and-left (eqb (length image) 2112) _ q))))
+    by : (b : Bool) → isSoundImage image ≡ b → length (answerLine (stepOn image line .answer)) ≤ longest
+    by true q = rw q (line-short (tableFrom image) line (typed-from image octets (eqb-true (length image) imageOctets (and-left (eqb (length image) imageOctets) _ q))))
     by false q = rw q (number-short 25 (lit≤ tt))

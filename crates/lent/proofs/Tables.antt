@@ -1,6 +1,5 @@
 -- The image of a sound table, line after line: it is read as that table, and what a line leaves is the image of a sound table again. So an
 -- image that was read once need not be looked through before the next line.
--- Assumes nothing.
 use mathlib.Core.Path.{_≡_, refl, sym, ap, _∙_}
 use mathlib.Core.Bool.{Bool, true, false, cond}
 use mathlib.Core.List.{List, _++_}
@@ -10,7 +9,7 @@ use lib.Dec.{eqb}
 use lib.ListN.{length, getD, replicate, length-replicate, getD-replicate, replicate-append-replicate}
 use borrow.Author.Tests.{eqb-false}
 use Rattle.table.specs.declared.Table.{Table}
-use Rattle.table.specs.Places.{freeRecord, emptyTable, blank}
+use Rattle.table.specs.Places.{freeRecord, emptyTable, blank, placeCount}
 use Rattle.table.specs.Sound.{isSound}
 use Rattle.table.proofs.Facts.{empty-sound}
 use Rattle.events.specs.declared.Event.{Event}
@@ -22,8 +21,8 @@ use Rattle.lines.specs.declared.ReadEvent.{ReadEvent}
 use Rattle.lines.specs.EventLine.{readLine}
 use Rattle.lent.specs.LineStep.{lineStep}
 use Rattle.lines.proofs.Ranged.{read-ranged}
-use Rattle.image.specs.Image.{Fit, octetsOf, octetsOfAll, imageOf, tableFrom, isRead}
-use Rattle.image.proofs.Round.{fit-from, image-read, image-reads-back, image-written-back}
+use Rattle.image.specs.Image.{Fit, octetsOf, octetsOfAll, imageOf, tableFrom, isSoundImage, placeOctets, imageOctets}
+use Rattle.image.proofs.Round.{fit-from, image-tested, image-reads-back, image-written-back}
 use Rattle.lent.specs.Lent.{stepOn, stepAt, leftOn}
 use Rattle.lent.proofs.Kept.{fit-after, image-long, image-sound}
 
@@ -70,32 +69,32 @@ module _ (t : Table) (g : Good t) (line : List ℕ) where
       by false q = ap imageOf (sym (refused-line q))
 
 -- the image of a good table is read
-pub image-good : (t : Table) → Good t → isRead (imageOf t) ≡ true
-image-good t g = image-read t (g .fit) ∙ g .sound
+pub image-good : (t : Table) → Good t → isSoundImage (imageOf t) ≡ true
+image-good t g = image-tested t (g .fit) ∙ g .sound
 
 -- AN IMAGE STAYS READ
-pub stays-read : (image line : List ℕ) → ((k : ℕ) → getD image k 0 < 256) → isRead image ≡ true → isRead (leftOn image line) ≡ true
+pub stays-read : (image line : List ℕ) → ((k : ℕ) → getD image k 0 < 256) → isSoundImage image ≡ true → isSoundImage (leftOn image line) ≡ true
 stays-read image line octets good =
     let t : Table = tableFrom image in
     let g : Good t = record { fit = fit-from image (image-long image octets good); sound = image-sound image octets good } in
     let same : imageOf t ≡ image = image-written-back image (λ k h. octets k) good in
-    ap (λ o. isRead (leftOn o line)) (sym same) ∙ ap isRead (left-image t g line) ∙ image-good (lineStep t line .table) (line-good t g line)
+    ap (λ o. isSoundImage (leftOn o line)) (sym same) ∙ ap isSoundImage (left-image t g line) ∙ image-good (lineStep t line .table) (line-good t g line)
 
 -- ---- the empty table
 
 pub empty-good : Good emptyTable
 empty-good = record {
-  fit = record { size = length-replicate 96 freeRecord; wide = length-replicate {A = ℕ} 96 0; calls = λ i h. ap (λ r. length (r .call)) (getD-replicate 96 i freeRecord blank h) };
+  fit = record { size = length-replicate placeCount freeRecord; wide = length-replicate {A = ℕ} placeCount 0; calls = λ i h. ap (λ r. length (r .call)) (getD-replicate placeCount i freeRecord blank h) };
   sound = empty-sound;
 }
 
 -- its image is all zeros
-free-octets : (n : ℕ) → octetsOfAll (replicate n freeRecord) (replicate n 0) ≡ replicate (n * 22) 0
+free-octets : (n : ℕ) → octetsOfAll (replicate n freeRecord) (replicate n 0) ≡ replicate (n * placeOctets) 0
 unfolding octetsOfAll octetsOf
 free-octets zero = refl
 free-octets (suc n) =
-    let more : 22 + n * 22 ≡ suc n * 22 = omega arith in
-    ap (λ (l : List ℕ). replicate 22 0 ++ l) (free-octets n) ∙ replicate-append-replicate 22 (n * 22) 0 ∙ ap (λ (k : ℕ). replicate k 0) more
+    let more : placeOctets + n * placeOctets ≡ suc n * placeOctets = omega arith in
+    ap (λ (l : List ℕ). replicate placeOctets 0 ++ l) (free-octets n) ∙ replicate-append-replicate placeOctets (n * placeOctets) 0 ∙ ap (λ (k : ℕ). replicate k 0) more
 
-pub empty-image : imageOf emptyTable ≡ replicate 2112 0
-empty-image = free-octets 96
+pub empty-image : imageOf emptyTable ≡ replicate imageOctets 0
+empty-image = free-octets placeCount

@@ -1,6 +1,5 @@
 -- Of every public function: two runs that meet its contract give the same answer and leave the same image. Each contract has an equation
 -- with a definition for either.
--- Assumes nothing.
 use mathlib.Core.Path.{sym, _∙_}
 use denote.Ref.{now}
 use Rattle.laws.specs.Decides.{Decides, DecidesMemory}

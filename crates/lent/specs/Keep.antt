@@ -1,5 +1,4 @@
 -- Taking the octets of a line into a buffer of 63, up to the line feed or the end of the piece.
--- Assumes nothing.
 use mathlib.Core.Bool.{cond}
 use mathlib.Core.List.{List, [], _∷_}
 use Prim.Native.Nat.{ℕ, suc, _+_}

@@ -1,6 +1,5 @@
 -- A line at a table: the step of the event that it says, or its refusal by 21 to 24, which has "zeros everywhere but its number" and
 -- keeps the table.
--- Assumes nothing.
 use mathlib.Core.Bool.{cond}
 use mathlib.Core.List.{List}
 use Prim.Native.Nat.{ℕ}

@@ -1,6 +1,5 @@
 -- A session: the table as its image, and as much of the line that is coming as is needed to answer it. 63 octets are enough: a longer line is
 -- refused by 21 whatever follows. Octets come in pieces of any size.
--- Assumes nothing.
 use mathlib.Core.Path.{_≡_}
 use mathlib.Core.Bool.{Bool, true, false, cond}
 use mathlib.Core.List.{List, [], _∷_, _++_}
@@ -8,6 +7,7 @@ use Prim.Native.Nat.{ℕ, _+_, _/_}
 use lib.Dec.{eqb, ltb}
 use lib.ListN.{length, take, set, replicate}
 use lib.Seq.{sets}
+use Rattle.image.specs.Image.{imageOctets}
 use Rattle.step.specs.declared.Step.{Step}
 use Rattle.lines.specs.AnswerLine.{answerLine, answerRoom}
 use Rattle.lent.specs.Lent.{stepOn, leftOn}
@@ -16,7 +16,7 @@ use Rattle.lent.specs.declared.session.Fed.{Fed}
 use Rattle.lent.specs.Stream.{answersTo}
 
 abbrev pub started : Session
-started = record { image = replicate 2112 0; kept = replicate 63 0; len = 0 }
+started = record { image = replicate imageOctets 0; kept = replicate 63 0; len = 0 }
 
 -- what has come of the line
 abbrev pub pending : Session → List ℕ

@@ -1,6 +1,5 @@
 -- What is answered to a whole stream of octets (document 01, "Lines end with a line feed; a last line may lack it; nothing after the
 -- last feed is no line." and "prints one answer line each"). Nothing here knows of pieces or buffers.
--- Assumes nothing.
 use mathlib.Core.Bool.{cond}
 use mathlib.Core.List.{List, [], _∷_, _++_}
 use Prim.Native.Nat.{ℕ}

@@ -24,24 +24,23 @@ use step::Step;
 use table::Found;
 use table::Place;
 use table::Side;
-use table::State;
 use table::Table;
 ghost use mathlib.Core.Path.{_≡_};
 ghost use mathlib.Core.Bool.{true};
 ghost use Prim.Native.Nat.{ℕ, _<_};
 ghost use lib.ListN.{length};
 ghost use Rattle.table.specs.declared.Found.the-variants.{At};
-ghost use Rattle.table.specs.Places.{recordAt};
+ghost use Rattle.table.specs.Places.{placeCount, recordAt};
 ghost use Rattle.events.specs.Rule.{ruleOf};
 ghost use Rattle.events.specs.Act.{acted};
 ghost use Rattle.step.specs.Aim.{aimAt, isProposed, chosen, aimNew, aim};
 ghost use Rattle.step.specs.Step.{carriedOut, stepAny, stepOf};
-ghost use Rattle.image.specs.Image.{tableFrom, isRead};
+ghost use Rattle.image.specs.Image.{imageOctets, tableFrom, isSoundImage};
 ghost use Rattle.lent.specs.Lent.{stepOn, leftOn, writtenAt, leftFor};
 
 // The event at the index that it is for.
 fn act_at(image: &mut [u8], i: usize, e: Event) -> Answer
-    requires { ⌜ (length (now image) ≡ 2112) × (i < 96) ⌝ }
+    requires { ⌜ (length (now image) ≡ imageOctets) × (i < placeCount) ⌝ }
     ensures { λ r. ⌜ (r ≡ acted e i (recordAt (tableFrom (now (image .entry))) i) .answer) × (now (image .exit) ≡ writtenAt (now (image .entry)) i (acted e i (recordAt (tableFrom (now (image .entry))) i))) ⌝ }
 {
     let r = places::read_place(i, image);
@@ -56,7 +55,7 @@ fn act_at(image: &mut [u8], i: usize, e: Event) -> Answer
 
 // The event at the place that was found for it, or its refusal.
 fn act_found(image: &mut [u8], e: Event, f: Found, w: Refusal) -> Answer
-    requires { ⌜ (length (now image) ≡ 2112) × ((i : ℕ) → f ≡ At i → i < 96) ⌝ }
+    requires { ⌜ (length (now image) ≡ imageOctets) × ((i : ℕ) → f ≡ At i → i < placeCount) ⌝ }
     ensures { λ r. ⌜ (r ≡ carriedOut (ruleOf (e .kind)) (tableFrom (now (image .entry))) e (aimAt f w) .answer) × (now (image .exit) ≡ leftFor (now (image .entry)) e (aimAt f w)) ⌝ }
 {
     match f {
@@ -66,7 +65,7 @@ fn act_found(image: &mut [u8], e: Event, f: Found, w: Refusal) -> Answer
 }
 
 fn is_proposed(image: &[u8], d: Side, p: Place) -> bool
-    requires { ⌜ length (now image) ≡ 2112 ⌝ }
+    requires { ⌜ length (now image) ≡ imageOctets ⌝ }
     ensures { λ r. ⌜ r ≡ isProposed (tableFrom (now (image .entry))) d p ⌝ }
 {
     if p.side().is_of(d) {
@@ -81,19 +80,19 @@ fn is_proposed(image: &[u8], d: Side, p: Place) -> bool
 
 // The proposed place, or the lowest free one.
 fn choose(image: &[u8], d: Side, p: Place) -> Found
-    requires { ⌜ length (now image) ≡ 2112 ⌝ }
+    requires { ⌜ length (now image) ≡ imageOctets ⌝ }
     ensures { λ r. ⌜ r ≡ chosen (tableFrom (now (image .entry))) d p ⌝ }
 {
     if is_proposed(image, d, p) {
         Found::At((p.0 - 1) as usize)
     } else {
-        search::lowest_in(image, d, State::Free)
+        search::lowest_free(image, d)
     }
 }
 
 // A park or an alert.
 fn act_new(image: &mut [u8], d: Side, e: Event) -> Answer
-    requires { ⌜ length (now image) ≡ 2112 ⌝ }
+    requires { ⌜ length (now image) ≡ imageOctets ⌝ }
     ensures { λ r. ⌜ (r ≡ carriedOut (ruleOf (e .kind)) (tableFrom (now (image .entry))) e (aimNew d (tableFrom (now (image .entry))) e) .answer) × (now (image .exit) ≡ leftFor (now (image .entry)) e (aimNew d (tableFrom (now (image .entry))) e)) ⌝ }
 {
     let call = e.call;
@@ -109,7 +108,7 @@ fn act_new(image: &mut [u8], d: Side, e: Event) -> Answer
 
 // An event at an image. Only its length is asked for: whether it is one of a sound table is for the caller to know.
 fn act_on(image: &mut [u8], e: Event) -> Answer
-    requires { ⌜ length (now image) ≡ 2112 ⌝ }
+    requires { ⌜ length (now image) ≡ imageOctets ⌝ }
     ensures { λ r. ⌜ (r ≡ stepAny (tableFrom (now (image .entry))) e .answer) × (now (image .exit) ≡ leftFor (now (image .entry)) e (aim (ruleOf (e .kind)) (tableFrom (now (image .entry))) e)) ⌝ }
 {
     match sought::sought_of(e) {
@@ -149,7 +148,7 @@ pub fn single_step(t: Table, e: Event) -> Step
 
 // A line at the image of a sound table.
 pub(crate) fn step_line(image: &mut [u8], line: &[u8]) -> Answer
-    requires { ⌜ isRead (now image) ≡ true ⌝ }
+    requires { ⌜ isSoundImage (now image) ≡ true ⌝ }
     ensures { λ r. ⌜ (r ≡ stepOn (now (image .entry)) (now (line .entry)) .answer) × (now (image .exit) ≡ leftOn (now (image .entry)) (now (line .entry))) ⌝ }
 {
     let read = lines::read_event(line);
@@ -165,7 +164,7 @@ pub(crate) fn step_line(image: &mut [u8], line: &[u8]) -> Answer
 pub fn answer_line(image: &mut [u8], line: &[u8]) -> Answer
     ensures { λ r. ⌜ (r ≡ stepOn (now (image .entry)) (now (line .entry)) .answer) × (now (image .exit) ≡ leftOn (now (image .entry)) (now (line .entry))) ⌝ }
 {
-    if sound::is_read(image) {
+    if sound::is_sound_image(image) {
         step_line(image, line)
     } else {
         answers::only_number(25)

@@ -2,22 +2,11 @@
 
 use table::Side;
 ghost use mathlib.Core.Path.{_≡_};
-ghost use mathlib.Core.Bool.{cond, _&&_};
+ghost use mathlib.Core.Bool.{false, cond, _&&_};
 ghost use lib.Dec.{eqb};
 ghost use lib.ListN.{getD, set};
 ghost use Rattle.table.specs.Ranks.{rankIn};
 ghost use Rattle.table.specs.Marks.{slotOf, isFresh, withMark};
-
-// May a place, free or not, of a side with n calls have this rank?
-fn rank_in(free: bool, n: u8, rank: u8) -> bool
-    ensures { λ r. ⌜ r ≡ rankIn free n rank ⌝ }
-{
-    if free {
-        rank == 0
-    } else {
-        rank != 0 && rank <= n
-    }
-}
 
 // Marks a rank of a side, and says whether it was not marked before.
 fn mark(marks: &mut [u8; 512], a: Side, rank: u8) -> bool
@@ -29,15 +18,15 @@ fn mark(marks: &mut [u8; 512], a: Side, rank: u8) -> bool
     fresh
 }
 
-// May the next place of a side with n calls, free or not, have this rank after those that are marked? If so, it is marked too.
-pub(crate) fn enter_rank(marks: &mut [u8; 512], a: Side, free: bool, n: u8, rank: u8) -> bool
-    ensures { λ r. ⌜ (r ≡ rankIn free n rank && isFresh (now (marks .entry)) a rank) × (now (marks .exit) ≡ cond (rankIn free n rank) (withMark (now (marks .entry)) a rank) (now (marks .entry))) ⌝ }
+// May the next call of a side with n calls have this rank after those that are marked? If so, it is marked too.
+pub(crate) fn enter_rank(marks: &mut [u8; 512], a: Side, n: u8, rank: u8) -> bool
+    ensures { λ r. ⌜ (r ≡ rankIn false n rank && isFresh (now (marks .entry)) a rank) × (now (marks .exit) ≡ cond (rankIn false n rank) (withMark (now (marks .entry)) a rank) (now (marks .entry))) ⌝ }
 {
-    if !rank_in(free, n, rank) {
+    if rank == 0 {
         return false;
     }
-    if rank == 0 {
-        return true;
+    if n < rank {
+        return false;
     }
     mark(marks, a, rank)
 }

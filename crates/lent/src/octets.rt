@@ -1,14 +1,18 @@
-// The 21 octets of one record.
+// The octets of one record.
 
+use image::CONNECTION_OFFSET;
+use image::COUNT_OFFSET;
 use table::Connection;
 use table::Invoke;
 use table::Record;
 use table::State;
+use table::Table;
 ghost use mathlib.Core.Path.{_≡_};
 ghost use Prim.Native.Nat.{_+_, _*_, _≤_, _<_};
 ghost use lib.ListN.{length, take, drop};
 ghost use lib.Seq.{sets};
-ghost use Rattle.image.specs.Image.{stateOf, pairAt, recordFrom, octetsOf};
+ghost use Rattle.table.specs.Places.{callOctets};
+ghost use Rattle.image.specs.Image.{recordOctets, pairAt, recordFrom, octetsOf};
 
 fn wide(x: u8) -> u16
     ensures { λ r. ⌜ r ≡ x ⌝ }
@@ -22,19 +26,6 @@ pub(crate) fn join(high: u8, low: u8) -> u16
     wide(high) * 256 + wide(low)
 }
 
-fn state_of(n: u8) -> State
-    ensures { λ r. ⌜ r ≡ stateOf n ⌝ }
-{
-    match n {
-        0 => State::Free,
-        1 => State::ParkWaiting,
-        2 => State::LineWaiting,
-        3 => State::Requested,
-        4 => State::RemoteRequested,
-        _ => State::HandedOver,
-    }
-}
-
 pub(crate) fn read_pair(image: &[u8], at: usize) -> u16
     requires { ⌜ at + 1 < length (now image) ⌝ }
     ensures { λ r. ⌜ r ≡ pairAt (now (image .entry)) at ⌝ }
@@ -42,13 +33,13 @@ pub(crate) fn read_pair(image: &[u8], at: usize) -> u16
     join(image[at], image[at + 1])
 }
 
-fn read_call(image: &[u8], at: usize) -> [u8; 16]
-    requires { ⌜ at + 16 ≤ length (now image) ⌝ }
-    ensures { λ r. ⌜ r ≡ take 16 (drop at (now (image .entry))) ⌝ }
+fn read_call(image: &[u8], at: usize) -> [u8; Table::CALL_OCTETS]
+    requires { ⌜ at + callOctets ≤ length (now image) ⌝ }
+    ensures { λ r. ⌜ r ≡ take callOctets (drop at (now (image .entry))) ⌝ }
 {
-    let mut a = [0u8; 16];
+    let mut a = [0u8; Table::CALL_OCTETS];
     let mut i: usize = 0;
-    while i < 16 {
+    while i < Table::CALL_OCTETS {
         a[i] = image[at + i];
         i += 1;
     }
@@ -56,13 +47,13 @@ fn read_call(image: &[u8], at: usize) -> [u8; 16]
 }
 
 pub(crate) fn read_record(image: &[u8], at: usize) -> Record
-    requires { ⌜ at + 21 ≤ length (now image) ⌝ }
+    requires { ⌜ at + recordOctets ≤ length (now image) ⌝ }
     ensures { λ r. ⌜ r ≡ recordFrom (now (image .entry)) at ⌝ }
 {
-    let state = state_of(image[at]);
+    let state = State::of(image[at]);
     let call = read_call(image, at + 1);
-    let connection = read_pair(image, at + 17);
-    let count = read_pair(image, at + 19);
+    let connection = read_pair(image, at + CONNECTION_OFFSET);
+    let count = read_pair(image, at + COUNT_OFFSET);
     Record {
         state,
         call,
@@ -71,20 +62,20 @@ pub(crate) fn read_record(image: &[u8], at: usize) -> Record
     }
 }
 
-fn put_call(out: &mut [u8], at: usize, call: [u8; 16])
-    requires { ⌜ at + 16 ≤ length (now out) ⌝ }
+fn put_call(out: &mut [u8], at: usize, call: [u8; Table::CALL_OCTETS])
+    requires { ⌜ at + callOctets ≤ length (now out) ⌝ }
     ensures { λ _. ⌜ now (out .exit) ≡ sets (now (out .entry)) at call ⌝ }
 {
     let mut i: usize = 0;
-    while i < 16 {
+    while i < Table::CALL_OCTETS {
         out[at + i] = call[i];
         i += 1;
     }
 }
 
 pub(crate) fn put_record(out: &mut [u8], at: usize, r: Record)
-    requires { ⌜ at + 21 ≤ length (now out) ⌝ }
-    ensures { λ _. ⌜ (now (out .exit) ≡ sets (now (out .entry)) at (octetsOf r)) × (length (octetsOf r) ≡ 21) ⌝ }
+    requires { ⌜ at + recordOctets ≤ length (now out) ⌝ }
+    ensures { λ _. ⌜ (now (out .exit) ≡ sets (now (out .entry)) at (octetsOf r)) × (length (octetsOf r) ≡ recordOctets) ⌝ }
 {
     let s = r.state;
     out[at] = s.number();
@@ -92,8 +83,8 @@ pub(crate) fn put_record(out: &mut [u8], at: usize, r: Record)
     put_call(out, at + 1, call);
     let connection = r.connection.0;
     let count = r.count.0;
-    out[at + 17] = (connection / 256) as u8;
-    out[at + 18] = (connection % 256) as u8;
-    out[at + 19] = (count / 256) as u8;
-    out[at + 20] = (count % 256) as u8;
+    out[at + CONNECTION_OFFSET] = (connection / 256) as u8;
+    out[at + CONNECTION_OFFSET + 1] = (connection % 256) as u8;
+    out[at + COUNT_OFFSET] = (count / 256) as u8;
+    out[at + COUNT_OFFSET + 1] = (count % 256) as u8;
 }

@@ -1,8 +1,8 @@
 // Looking through the places of an image.
 
-use crate::octets;
-use crate::ranks;
 use crate::words;
+use image::PLACE_OCTETS;
+use image::RECORD_OCTETS;
 use table::Found;
 use table::Side;
 use table::State;
@@ -10,17 +10,19 @@ use table::Table;
 ghost use mathlib.Core.Path.{_≡_};
 ghost use Prim.Native.Nat.{ℕ, _*_, _<_};
 ghost use lib.ListN.{length};
+ghost use Rattle.table.specs.declared.State.the-variants.{Free};
 ghost use Rattle.table.specs.declared.Found.the-variants.{At};
 ghost use Rattle.table.specs.Search.{holds, findCall, lowestIn};
 ghost use Rattle.table.specs.Ranks.{earlier, nextWaiting};
-ghost use Rattle.image.specs.Image.{recordFrom, tableFrom};
+ghost use Rattle.table.specs.Places.{placeCount, callOctets};
+ghost use Rattle.image.specs.Image.{imageOctets, recordIn, tableFrom};
 
 // The call is compared before the state: it hardly ever agrees, and the processor can count on that.
 fn holds_call(image: &[u8], i: usize, call: &[u8]) -> bool
-    requires { ⌜ (i < 96) × (length (now image) ≡ 2112) × (length (now call) ≡ 16) ⌝ }
-    ensures { λ r. ⌜ r ≡ holds (now (call .entry)) (recordFrom (now (image .entry)) (i * 22)) ⌝ }
+    requires { ⌜ (i < placeCount) × (length (now image) ≡ imageOctets) × (length (now call) ≡ callOctets) ⌝ }
+    ensures { λ r. ⌜ r ≡ holds (now (call .entry)) (recordIn (now (image .entry)) i) ⌝ }
 {
-    let at = i * 22;
+    let at = i * PLACE_OCTETS;
     if words::same_call(image, at + 1, call, 0) {
         return image[at] != 0;
     }
@@ -28,7 +30,7 @@ fn holds_call(image: &[u8], i: usize, call: &[u8]) -> bool
 }
 
 fn call_among(image: &[u8], call: &[u8]) -> Found
-    requires { ⌜ (length (now image) ≡ 2112) × (length (now call) ≡ 16) ⌝ }
+    requires { ⌜ (length (now image) ≡ imageOctets) × (length (now call) ≡ callOctets) ⌝ }
     ensures { λ r. ⌜ r ≡ findCall (tableFrom (now (image .entry))) (now (call .entry)) ⌝ }
 {
     let mut i: usize = 0;
@@ -42,22 +44,23 @@ fn call_among(image: &[u8], call: &[u8]) -> Found
 }
 
 // The index of the place that holds a call.
-pub(crate) fn find_call(image: &[u8], call: [u8; 16]) -> Found
-    requires { ⌜ length (now image) ≡ 2112 ⌝ }
+pub(crate) fn find_call(image: &[u8], call: [u8; Table::CALL_OCTETS]) -> Found
+    requires { ⌜ length (now image) ≡ imageOctets ⌝ }
     ensures { λ r. ⌜ r ≡ findCall (tableFrom (now (image .entry))) call ⌝ }
 {
     call_among(image, &call)
 }
 
-// The lowest index of a side in a state.
-pub(crate) fn lowest_in(image: &[u8], a: Side, s: State) -> Found
-    requires { ⌜ length (now image) ≡ 2112 ⌝ }
-    ensures { λ r. ⌜ r ≡ lowestIn (tableFrom (now (image .entry))) a s ⌝ }
+// The lowest free place of a side.
+pub(crate) fn lowest_free(image: &[u8], a: Side) -> Found
+    requires { ⌜ length (now image) ≡ imageOctets ⌝ }
+    ensures { λ r. ⌜ r ≡ lowestIn (tableFrom (now (image .entry))) a Free ⌝ }
 {
-    let mut i: usize = 0;
-    while i < Table::PLACES {
-        let r = octets::read_record(image, i * 22);
-        if table::search::is_at(a, s, i, r) {
+    let free = State::Free.number();
+    let mut i = a.first();
+    let end = a.end();
+    while i < end {
+        if image[i * PLACE_OCTETS] == free {
             return Found::At(i);
         }
         i += 1;
@@ -67,12 +70,12 @@ pub(crate) fn lowest_in(image: &[u8], a: Side, s: State) -> Found
 
 // Of place n and the one that was found before it: the one that came first.
 fn earlier_of(image: &[u8], n: usize, f: Found) -> Found
-    requires { ⌜ (n < 96) × (length (now image) ≡ 2112) × ((i : ℕ) → f ≡ At i → i < 96) ⌝ }
+    requires { ⌜ (n < placeCount) × (length (now image) ≡ imageOctets) × ((i : ℕ) → f ≡ At i → i < placeCount) ⌝ }
     ensures { λ r. ⌜ r ≡ earlier (tableFrom (now (image .entry))) n f ⌝ }
 {
     match f {
         Found::At(i) => {
-            if image[n * 22 + 21] < image[i * 22 + 21] {
+            if image[n * PLACE_OCTETS + RECORD_OCTETS] < image[i * PLACE_OCTETS + RECORD_OCTETS] {
                 Found::At(n)
             } else {
                 Found::At(i)
@@ -84,15 +87,15 @@ fn earlier_of(image: &[u8], n: usize, f: Found) -> Found
 
 // The waiting place of a side that is served.
 pub(crate) fn next_waiting(image: &[u8], a: Side) -> Found
-    requires { ⌜ length (now image) ≡ 2112 ⌝ }
+    requires { ⌜ length (now image) ≡ imageOctets ⌝ }
     ensures { λ r. ⌜ r ≡ nextWaiting (tableFrom (now (image .entry))) a ⌝ }
 {
     let s = a.waiting().number();
     let mut found = Found::Nothing;
-    let mut i = ranks::first_of(a);
-    let end = ranks::end_of(a);
+    let mut i = a.first();
+    let end = a.end();
     while i < end {
-        if image[i * 22] == s {
+        if image[i * PLACE_OCTETS] == s {
             found = earlier_of(image, i, found);
         }
         i += 1;

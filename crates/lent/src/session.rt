@@ -6,19 +6,20 @@
 use crate::sound;
 use events::Answer;
 use events::answers;
+use image::IMAGE_OCTETS;
 ghost use mathlib.Core.Path.{_≡_};
 ghost use Prim.Native.Nat.{_+_, _-_, _≤_, min};
 ghost use lib.ListN.{length, take, drop};
 ghost use lib.Seq.{sets};
 ghost use Rattle.lines.specs.AnswerLine.{answerLine, answerRoom};
-ghost use Rattle.image.specs.Image.{isRead};
+ghost use Rattle.image.specs.Image.{isSoundImage};
 ghost use Rattle.lent.specs.Lent.{stepOn, leftOn};
 ghost use Rattle.lent.specs.Session.{started, fed, fedOut, finishedOut, finishedCount};
 ghost use Rattle.lent.specs.Keep.{atMost63, keptFrom, lenFrom, untilFeed};
 
 pub struct Session {
     // the table
-    pub image: [u8; 2112],
+    pub image: [u8; IMAGE_OCTETS],
     // the front of the line that is coming, and how much of it
     pub kept: [u8; 63],
     pub len: usize,
@@ -42,7 +43,7 @@ impl Session {
         ensures { λ r. ⌜ r ≡ started ⌝ }
     {
         Session {
-            image: [0; 2112],
+            image: [0; IMAGE_OCTETS],
             kept: [0; 63],
             len: 0,
         }
@@ -109,8 +110,8 @@ fn keep_line(kept: &mut [u8; 63], len: usize, piece: &[u8], from: usize) -> Kept
 
 // Answers a line at the image. Whether it is one of a sound table was found out before, and no line changes that.
 fn answer_at(sound: bool, image: &mut [u8], line: &[u8]) -> Answer
-    requires { ⌜ sound ≡ isRead (now image) ⌝ }
-    ensures { λ r. ⌜ (r ≡ stepOn (now (image .entry)) (now (line .entry)) .answer) × (now (image .exit) ≡ leftOn (now (image .entry)) (now (line .entry))) × (sound ≡ isRead (leftOn (now (image .entry)) (now (line .entry)))) ⌝ }
+    requires { ⌜ sound ≡ isSoundImage (now image) ⌝ }
+    ensures { λ r. ⌜ (r ≡ stepOn (now (image .entry)) (now (line .entry)) .answer) × (now (image .exit) ≡ leftOn (now (image .entry)) (now (line .entry))) × (sound ≡ isSoundImage (leftOn (now (image .entry)) (now (line .entry)))) ⌝ }
 {
     if sound {
         crate::step_line(image, line)
@@ -121,8 +122,8 @@ fn answer_at(sound: bool, image: &mut [u8], line: &[u8]) -> Answer
 
 // Answers a line, and writes the answer from an index of the buffer on. Gives the count of octets written.
 fn end_line(sound: bool, image: &mut [u8], line: &[u8], out: &mut [u8], at: usize) -> usize
-    requires { ⌜ (at + answerRoom ≤ length (now out)) × (sound ≡ isRead (now image)) ⌝ }
-    ensures { λ r. ⌜ (r ≡ length (answerLine (stepOn (now (image .entry)) (now (line .entry)) .answer))) × (now (out .exit) ≡ sets (now (out .entry)) at (answerLine (stepOn (now (image .entry)) (now (line .entry)) .answer))) × (r ≤ answerRoom) × (now (image .exit) ≡ leftOn (now (image .entry)) (now (line .entry))) × (sound ≡ isRead (leftOn (now (image .entry)) (now (line .entry)))) ⌝ }
+    requires { ⌜ (at + answerRoom ≤ length (now out)) × (sound ≡ isSoundImage (now image)) ⌝ }
+    ensures { λ r. ⌜ (r ≡ length (answerLine (stepOn (now (image .entry)) (now (line .entry)) .answer))) × (now (out .exit) ≡ sets (now (out .entry)) at (answerLine (stepOn (now (image .entry)) (now (line .entry)) .answer))) × (r ≤ answerRoom) × (now (image .exit) ≡ leftOn (now (image .entry)) (now (line .entry))) × (sound ≡ isSoundImage (leftOn (now (image .entry)) (now (line .entry)))) ⌝ }
 {
     let a = answer_at(sound, image, line);
     lines::write_answer(a, &mut out[at..])
@@ -145,7 +146,7 @@ pub fn feed(s: Session, piece: &[u8], out: &mut [u8]) -> Fed
     let mut len = s.len;
     let mut at: usize = 0;
     let mut i: usize = 0;
-    let sound = sound::is_read(&image);
+    let sound = sound::is_sound_image(&image);
     loop {
         let k = keep_line(&mut kept, len, piece, i);
         let e = k.end;
@@ -181,6 +182,6 @@ pub fn finish(s: Session, out: &mut [u8]) -> usize
     let kept = s.kept;
     let mut image = s.image;
     let n = at_most_63(s.len);
-    let sound = sound::is_read(&image);
+    let sound = sound::is_sound_image(&image);
     end_line(sound, &mut image, &kept[..n], out, 0)
 }

@@ -4,22 +4,27 @@
 
 use crate::octets;
 use crate::words;
+use image::CONNECTION_OFFSET;
+use image::IMAGE_OCTETS;
+use image::PLACE_OCTETS;
+use image::RECORD_OCTETS;
 use image::ranks::Calls;
 use table::Side;
 use table::Table;
 ghost use mathlib.Core.Path.{_≡_};
-ghost use mathlib.Core.Bool.{true, false, _&&_};
+ghost use mathlib.Core.Bool.{true, false};
 ghost use Prim.Native.Nat.{ℕ, _+_, _*_, _≤_, _<_};
 ghost use lib.ListN.{length, take, drop};
+ghost use Rattle.table.specs.Places.{placeCount, callOctets};
 ghost use Rattle.table.specs.Sound.{allZeros, isSound};
 ghost use Rattle.table.specs.Ranks.{isRanked};
 ghost use Rattle.table.specs.Marks.{Entering};
-ghost use Rattle.image.specs.Image.{recordFrom, statesFit, tableFrom, isRead};
+ghost use Rattle.image.specs.Image.{recordOctets, imageOctets, recordFrom, tableFrom, placesSound, isSoundImage};
 ghost use Rattle.image.specs.Quick.{placeFits, Busy, callAt, bucketOf, lastIn, Linked, Apart, Entered, callsIn};
 
 // Are the twenty octets after a state octet zeros?
 fn all_zeros(image: &[u8], at: usize) -> bool
-    requires { ⌜ at + 21 ≤ length (now image) ⌝ }
+    requires { ⌜ at + recordOctets ≤ length (now image) ⌝ }
     ensures { λ r. ⌜ r ≡ allZeros (recordFrom (now (image .entry)) at) ⌝ }
 {
     if words::word(image, at + 1) != 0 {
@@ -28,15 +33,15 @@ fn all_zeros(image: &[u8], at: usize) -> bool
     if words::word(image, at + 9) != 0 {
         return false;
     }
-    words::quad(image, at + 17) == 0
+    words::quad(image, at + CONNECTION_OFFSET) == 0
 }
 
 // May the octets of place i stand there?
 fn place_fits(image: &[u8], i: usize) -> bool
-    requires { ⌜ (i < 96) × (length (now image) ≡ 2112) ⌝ }
+    requires { ⌜ (i < placeCount) × (length (now image) ≡ imageOctets) ⌝ }
     ensures { λ r. ⌜ r ≡ placeFits (now (image .entry)) i ⌝ }
 {
-    let at = i * 22;
+    let at = i * PLACE_OCTETS;
     let s = image[at];
     if s == 0 {
         return all_zeros(image, at);
@@ -44,42 +49,36 @@ fn place_fits(image: &[u8], i: usize) -> bool
     if 5 < s {
         return false;
     }
-    if i < 64 {
-        if s == 2 {
-            return false;
-        }
-    } else {
-        if s == 1 {
-            return false;
-        }
+    if s == Side::at(i).missing().number() {
+        return false;
     }
     if s == 4 {
         return true;
     }
-    octets::read_pair(image, at + 17) == 0
+    octets::read_pair(image, at + CONNECTION_OFFSET) == 0
 }
 
 // The bucket of the call that starts at `at`. Their number is a prime, so that calls which differ in one octet, be it the first or the last,
 // seldom share one.
 fn bucket(image: &[u8], at: usize) -> usize
-    requires { ⌜ at + 16 ≤ length (now image) ⌝ }
-    ensures { λ r. ⌜ (r ≡ bucketOf (take 16 (drop at (now (image .entry))))) × (r < 509) ⌝ }
+    requires { ⌜ at + callOctets ≤ length (now image) ⌝ }
+    ensures { λ r. ⌜ (r ≡ bucketOf (take callOctets (drop at (now (image .entry))))) × (r < 509) ⌝ }
 {
     (std::num::wrapping_add_u64(words::word(image, at), words::word(image, at + 8)) % 509) as usize
 }
 
 // Does an earlier place hold the call of place i, which is occupied? `first` is one more than the last place before it in its bucket, or 0.
-fn held_before(image: &[u8], before: &[u8; 96], first: u8, i: usize) -> bool
-    requires { ⌜ (i < 96) × (length (now image) ≡ 2112) × Busy (now image) i ⌝ }
+fn held_before(image: &[u8], before: &[u8; Table::PLACES], first: u8, i: usize) -> bool
+    requires { ⌜ (i < placeCount) × (length (now image) ≡ imageOctets) × Busy (now image) i ⌝ }
     requires { ⌜ (first ≡ lastIn (now image) (bucketOf (callAt (now image) i)) i) × Linked (now image) i (now before) ⌝ }
     ensures held { λ r. ⌜ (r ≡ true → isSound (tableFrom (now (image .entry))) ≡ false) ⌝ }
     ensures apart { λ r. ⌜ (r ≡ false → (k : ℕ) → k < i → Apart (now (image .entry)) k i) ⌝ }
 {
-    let call = i * 22 + 1;
+    let call = i * PLACE_OCTETS + 1;
     let mut p = first as usize;
     while 0 < p {
         let k = p - 1;
-        if words::same_call(image, k * 22 + 1, image, call) {
+        if words::same_call(image, k * PLACE_OCTETS + 1, image, call) {
             return true;
         }
         p = before[k] as usize;
@@ -88,12 +87,12 @@ fn held_before(image: &[u8], before: &[u8; 96], first: u8, i: usize) -> bool
 }
 
 // Enters place i after the earlier ones, unless one of them holds its call.
-fn enter(image: &[u8], last: &mut [u8; 509], before: &mut [u8; 96], i: usize) -> bool
-    requires { ⌜ (i < 96) × (length (now image) ≡ 2112) × Entered (now image) i (now last) (now before) ⌝ }
+fn enter(image: &[u8], last: &mut [u8; 509], before: &mut [u8; Table::PLACES], i: usize) -> bool
+    requires { ⌜ (i < placeCount) × (length (now image) ≡ imageOctets) × Entered (now image) i (now last) (now before) ⌝ }
     ensures entered { λ r. ⌜ (r ≡ true → Entered (now (image .entry)) (i + 1) (now (last .exit)) (now (before .exit))) ⌝ }
     ensures held { λ r. ⌜ (r ≡ false → isSound (tableFrom (now (image .entry))) ≡ false) ⌝ }
 {
-    let at = i * 22;
+    let at = i * PLACE_OCTETS;
     if image[at] == 0 {
         return true;
     }
@@ -110,28 +109,28 @@ fn enter(image: &[u8], last: &mut [u8; 509], before: &mut [u8; 96], i: usize) ->
 // Enters the rank of place i after the earlier ones, unless it may not stand there or one of them has it. A free place is told apart here and not
 // by the callee, so that the compiler joins this test to that of `place_fits`.
 fn enter_rank(image: &[u8], calls: Calls, marks: &mut [u8; 512], i: usize) -> bool
-    requires { ⌜ (i < 96) × (length (now image) ≡ 2112) × (calls ≡ callsIn (now image)) × Entering (tableFrom (now image)) i (now marks) ⌝ }
+    requires { ⌜ (i < placeCount) × (length (now image) ≡ imageOctets) × (calls ≡ callsIn (now image)) × Entering (tableFrom (now image)) i (now marks) ⌝ }
     ensures entered { λ r. ⌜ (r ≡ true → Entering (tableFrom (now (image .entry))) (i + 1) (now (marks .exit))) ⌝ }
     ensures unfit { λ r. ⌜ (r ≡ false → isRanked (tableFrom (now (image .entry))) ≡ false) ⌝ }
 {
-    let at = i * 22;
-    let rank = image[at + 21];
+    let at = i * PLACE_OCTETS;
+    let rank = image[at + RECORD_OCTETS];
     if image[at] == 0 {
         return rank == 0;
     }
     let a = Side::at(i);
     let n = crate::ranks::of_side(a, calls.positions, calls.lines);
-    crate::marks::enter_rank(marks, a, false, n, rank)
+    crate::marks::enter_rank(marks, a, n, rank)
 }
 
 // Does every place fit, does no call stand twice, and are the ranks of each side those of its calls?
 pub(crate) fn places_sound(image: &[u8]) -> bool
-    requires { ⌜ length (now image) ≡ 2112 ⌝ }
-    ensures { λ r. ⌜ r ≡ statesFit (now (image .entry)) 0 96 && isSound (tableFrom (now (image .entry))) ⌝ }
+    requires { ⌜ length (now image) ≡ imageOctets ⌝ }
+    ensures { λ r. ⌜ r ≡ placesSound (now (image .entry)) ⌝ }
 {
     let calls = crate::ranks::calls_in(image);
     let mut last = [0u8; 509];
-    let mut before = [0u8; 96];
+    let mut before = [0u8; Table::PLACES];
     let mut marks = [0u8; 512];
     let mut i: usize = 0;
     while i < Table::PLACES {
@@ -150,10 +149,10 @@ pub(crate) fn places_sound(image: &[u8]) -> bool
 }
 
 // Is this an image of a sound table?
-pub fn is_read(image: &[u8]) -> bool
-    ensures { λ r. ⌜ r ≡ isRead (now (image .entry)) ⌝ }
+pub(crate) fn is_sound_image(image: &[u8]) -> bool
+    ensures { λ r. ⌜ r ≡ isSoundImage (now (image .entry)) ⌝ }
 {
-    if image.len() != 2112 {
+    if image.len() != IMAGE_OCTETS {
         return false;
     }
     places_sound(image)

@@ -1,24 +1,30 @@
 // The status query: free positions and lines, waiting calls, running timers.
 
 use crate::places;
-use table::Record;
+use crate::sound;
+use image::PLACE_OCTETS;
 use table::Side;
 use table::State;
 use table::Table;
-use table::search;
 use table::status::Status;
 use table::timers;
 ghost use mathlib.Core.Path.{_≡_};
-ghost use Rattle.table.specs.Status.{freeOn, waitsIn, runningAt, tallyOf, statusOf};
+ghost use mathlib.Core.Bool.{cond, _&&_};
+ghost use lib.Count.{ones};
+ghost use lib.ListN.{length};
+ghost use Rattle.table.specs.Places.{isFree, sameSide};
+ghost use Rattle.table.specs.Timers.{timerSet};
+ghost use Rattle.table.specs.Status.{waitsIn, tallyOf, statusOf};
+ghost use Rattle.image.specs.Image.{imageOctets, tableFrom};
 
-fn free_on(a: Side, i: usize, r: Record) -> u32
-    ensures { λ x. ⌜ x ≡ freeOn a i r ⌝ }
+// 1 where a place of side `a` in state `s` is free and on side `b`.
+fn free_on(b: Side, a: Side, s: State) -> u32
+    ensures { λ x. ⌜ x ≡ cond (sameSide a b && isFree s) 1 0 ⌝ }
 {
-    if search::is_at(a, State::Free, i, r) {
-        1
-    } else {
-        0
+    if !a.same(b) {
+        return 0;
     }
+    if s.is_free() { 1 } else { 0 }
 }
 
 fn waits_in(s: State) -> u32
@@ -34,16 +40,16 @@ fn waits_in(s: State) -> u32
     }
 }
 
-fn running_at(i: usize, r: Record) -> u32
-    ensures { λ x. ⌜ x ≡ runningAt i r ⌝ }
+fn running_in(a: Side, s: State) -> u32
+    ensures { λ x. ⌜ x ≡ ones (timerSet a s) ⌝ }
 {
-    let s = r.state;
-    u8::count_ones(timers::timer_set(Side::at(i), s))
+    u8::count_ones(timers::timer_set(a, s))
 }
 
-// The four sums over the places.
-fn tally(t: Table) -> Status
-    ensures { λ r. ⌜ r ≡ tallyOf t ⌝ }
+// The four sums over the places of an image.
+fn tally(image: &[u8]) -> Status
+    requires { ⌜ length (now image) ≡ imageOctets ⌝ }
+    ensures { λ r. ⌜ r ≡ tallyOf (tableFrom (now (image .entry))) ⌝ }
 {
     let mut positions: u32 = 0;
     let mut lines: u32 = 0;
@@ -51,12 +57,12 @@ fn tally(t: Table) -> Status
     let mut running: u32 = 0;
     let mut i: usize = 0;
     while i < Table::PLACES {
-        let r = t.places[i];
-        let s = r.state;
-        positions += free_on(Side::Position, i, r);
-        lines += free_on(Side::Line, i, r);
+        let a = Side::at(i);
+        let s = State::of(image[i * PLACE_OCTETS]);
+        positions += free_on(Side::Position, a, s);
+        lines += free_on(Side::Line, a, s);
         waiting += waits_in(s);
-        running += running_at(i, r);
+        running += running_in(a, s);
         i += 1;
     }
     Status {
@@ -72,8 +78,9 @@ fn tally(t: Table) -> Status
 pub fn status_of(t: Table) -> Status
     ensures { λ r. ⌜ r ≡ statusOf t ⌝ }
 {
-    if places::is_sound(t) {
-        tally(t)
+    let octets = places::octets_of(t);
+    if sound::places_sound(&octets) {
+        tally(&octets)
     } else {
         Status {
             number: 25,

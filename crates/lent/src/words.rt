@@ -4,6 +4,7 @@ use crate::octets;
 ghost use mathlib.Core.Path.{_≡_};
 ghost use Prim.Native.Nat.{_+_, _≤_};
 ghost use lib.ListN.{length, take, drop};
+ghost use Rattle.table.specs.Places.{callOctets};
 ghost use Rattle.table.specs.Search.{sameCall};
 ghost use Rattle.image.specs.Quick.{runAt};
 
@@ -44,8 +45,8 @@ pub(crate) fn word(image: &[u8], at: usize) -> u64
 
 // Is the call at one index the call at another? From the far end, as in `table::search`: the last eight octets, and then the first eight.
 pub(crate) fn same_call(x: &[u8], a: usize, y: &[u8], b: usize) -> bool
-    requires { ⌜ (a + 16 ≤ length (now x)) × (b + 16 ≤ length (now y)) ⌝ }
-    ensures { λ r. ⌜ r ≡ sameCall (take 16 (drop a (now (x .entry)))) (take 16 (drop b (now (y .entry)))) ⌝ }
+    requires { ⌜ (a + callOctets ≤ length (now x)) × (b + callOctets ≤ length (now y)) ⌝ }
+    ensures { λ r. ⌜ r ≡ sameCall (take callOctets (drop a (now (x .entry)))) (take callOctets (drop b (now (y .entry)))) ⌝ }
 {
     if word(x, a + 8) != word(y, b + 8) {
         return false;

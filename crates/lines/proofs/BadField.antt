@@ -1,6 +1,5 @@
 -- The walk from field i on names no field but the first bad one: by its seven steps, the last first. A field that is good takes the walk on,
 -- and is then one more of the good ones before what is named.
--- Assumes nothing.
 use mathlib.Core.Path.{_≡_, refl, _∙_, subst}
 use mathlib.Core.Bool.{Bool, true, false, cond, _||_}
 use mathlib.Core.List.{List}

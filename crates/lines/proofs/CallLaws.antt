@@ -1,6 +1,5 @@
 -- The call reader's two loops. The first stores the value of each digit and keeps the largest: an octet that is no digit makes a bad call
 -- wherever it stands. A turn of the second, as `callFrom` sees it: two digits are two steps of the slice.
--- Assumes nothing.
 use mathlib.Core.Path.{_≡_, refl, ap, _∙_}
 use mathlib.Core.Bool.{Bool, true, false, cond}
 use mathlib.Core.List.{List, [], _∷_, _++_}

@@ -1,6 +1,5 @@
 -- Decimal notation: reading what was written, and writing what was read, with the lengths of numbers. Reading goes on with anything after the
 -- digits, so that the last digit can be split off; writing takes one digit more at the end of a number above 0.
--- Assumes nothing.
 use mathlib.Core.Path.{_≡_, refl, sym, ap, _∙_}
 use mathlib.Core.List.{List, [], _∷_, _++_, append-assoc, append-nil}
 use mathlib.Core.Bool.{Bool, true, false, cond}

@@ -1,5 +1,4 @@
 -- The numbers of faults: at most 24, and 0 only where there is none.
--- Assumes nothing.
 use mathlib.Core.Path.{_≡_, refl}
 use mathlib.Core.Bool.{Bool, true, false, cond}
 use Prim.Native.Nat.{ℕ, _≤_, _<_}

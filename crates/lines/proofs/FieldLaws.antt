@@ -1,6 +1,5 @@
 -- A slice's fields, as loops and cuts see them: one turn of a loop that looks for tabs, and the parts before and after the first tab as
 -- cuts of the slice. The turns rewrite by `at-step`; the cuts go by induction, with the test of the first octet in two cases.
--- Assumes nothing.
 use mathlib.Core.Path.{_≡_, refl, sym, ap, _∙_}
 use mathlib.Core.List.{List, [], _∷_}
 use mathlib.Core.Bool.{Bool, true, false, cond}

@@ -1,6 +1,5 @@
 -- Hexadecimal notation: reading what was written, and writing what was read. Both go octet by octet, from the front; a digit and its value
 -- are each the other's.
--- Assumes nothing.
 use mathlib.Core.Path.{_≡_, refl, sym, ap, ap₂, _∙_}
 use mathlib.Core.List.{List, [], _∷_, _++_, append-assoc, append-nil}
 use mathlib.Core.Bool.{Bool, true, false, cond}

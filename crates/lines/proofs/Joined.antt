@@ -1,5 +1,4 @@
 -- Fields joined by tabs, and taken apart again. Each law goes by induction on the first field, with the test of its first octet in two cases.
--- Assumes nothing.
 use mathlib.Core.Path.{_≡_, refl, sym, ap}
 use mathlib.Core.List.{List, [], _∷_, _++_}
 use mathlib.Core.Bool.{Bool, true, false, cond}

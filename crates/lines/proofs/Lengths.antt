@@ -1,6 +1,5 @@
 -- How long a line is: the digits of its numbers, the 32 of its call, its tabs and, in an answer, its line feed. The bounds follow from the
 -- ranges of the numbers.
--- Assumes nothing.
 use mathlib.Core.Path.{_≡_}
 use mathlib.Core.List.{List}
 use Prim.Native.Nat.{ℕ, _+_, _≤_, _<_}

@@ -1,6 +1,5 @@
 -- The number reader: one turn of its loop, as `digitsFrom` sees it, and what a number that was read says of its digits. A turn rewrites
 -- with the tests in the definition's order; the other way, each test of the definition is passed in turn (`cond-past`, `cond-into`).
--- Assumes nothing.
 use mathlib.Core.Path.{_≡_, refl}
 use mathlib.Core.List.{List, [], _∷_}
 use Prim.Native.Nat.{ℕ, _+_, _-_, _*_, _≤_, _<_}

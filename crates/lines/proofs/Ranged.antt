@@ -1,5 +1,4 @@
 -- What comes of reading any line, refused ones too: its number is at most 24, and its event has a call of 16 octets and a connection of 16 bits.
--- Assumes nothing.
 use mathlib.Core.Path.{_≡_, refl}
 use mathlib.Core.Bool.{Bool, true, false, cond}
 use mathlib.Core.List.{List, [], _∷_, _++_}

@@ -1,6 +1,5 @@
 -- The reader of an event line on its way: the line's answer is that of its rest from one field on, with the values read so far. A number or
 -- a call that is read takes it on by a field; one that is bad ends it.
--- Assumes nothing.
 use mathlib.Core.Path.{_≡_}
 use mathlib.Core.List.{List}
 use mathlib.Core.Bool.{true, false}

@@ -1,6 +1,5 @@
 -- The two round trips of event lines. Reading what was written: the seven fields have no tabs, so that the cuts of the line are they.
 -- Writing what was read: no test of the reader refused, so that each field is what its value is written as.
--- Assumes nothing.
 use mathlib.Core.Path.{_≡_, refl, sym, ap, _∙_}
 use mathlib.Core.List.{List}
 use mathlib.Core.Bool.{Bool, true, false, cond}

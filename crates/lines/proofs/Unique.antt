@@ -1,6 +1,5 @@
 -- Of every public function: two results that meet its contract are equal; of a slice that is given back, its octets, and of a buffer that
 -- is written, also what stands in it at the end. Each contract is an equation with a definition.
--- Assumes nothing.
 use mathlib.Core.Path.{sym, _∙_}
 use denote.Ref.{now}
 use Rattle.laws.specs.Decides.{Decides, DecidesSeen, DecidesMemory}

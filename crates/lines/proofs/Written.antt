@@ -1,6 +1,5 @@
 -- What a call writes and what the next one writes make one text. A field and the tab after it are written by one call, so that the text is the
 -- field joined to what the later calls write.
--- Assumes nothing.
 use mathlib.Core.Path.{_≡_, sym, ap, _∙_}
 use mathlib.Core.List.{List, [], _∷_, _++_, append-assoc}
 use Prim.Native.Nat.{ℕ, _+_}

@@ -1,7 +1,6 @@
 -- The answer line (document 01, "Answer line: number, call, place, state after, message, connection, invoke, error, started, stopped.";
 -- document 02, Q-1: "The answer line gets four fields at its end: message, connection, invoke, error of the second, zeros if there is none."),
 -- with its line feed.
--- Assumes nothing.
 use mathlib.Core.List.{List, [], _∷_, _++_}
 use Prim.Native.Nat.{ℕ}
 use Rattle.events.specs.declared.Answer.{Answer}

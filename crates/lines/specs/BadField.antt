@@ -1,6 +1,5 @@
 -- How the first bad field of a line stands to its reading (document 02, Q-3). Both are taken from one walk through the line (`reading`); this
 -- says what the field that is named has to do with the fields as they stand in the line, and with the refusal.
--- Assumes nothing.
 use mathlib.Core.Path.{_≡_}
 use mathlib.Core.Bool.{Bool, true, false, cond, _||_}
 use mathlib.Core.List.{List}

@@ -1,5 +1,4 @@
 -- Calls in hexadecimal (document 01, refusal 24: "not 32 lowercase hex digits"): reading and writing sixteen octets.
--- Assumes nothing.
 use mathlib.Core.Bool.{true, false, cond}
 use mathlib.Core.List.{List, [], _∷_, _++_}
 use Prim.Native.Nat.{ℕ, _+_, _-_, _*_, _/_, _%_}

@@ -1,6 +1,5 @@
 -- The event line (document 01, "Event line: the seven fields above in that order, parted by tabs."): what a line says, the two things that
 -- are taken from it, its event with refusals 21 to 24 and its first bad field, and how an event is written.
--- Assumes nothing.
 use mathlib.Core.Bool.{cond, _||_}
 use mathlib.Core.List.{List, _∷_, _++_}
 use Prim.Native.Nat.{ℕ}

@@ -1,6 +1,5 @@
 -- Decimal numbers (document 01, refusal 23: "empty, not decimal, leading zero on a longer number, out of range"): reading one up to a
 -- largest value, and writing one.
--- Assumes nothing.
 use mathlib.Core.Bool.{cond}
 use mathlib.Core.List.{List, [], _∷_, _++_}
 use Prim.Native.Nat.{ℕ, zero, suc, _+_, _-_, _*_, _/_, _%_}

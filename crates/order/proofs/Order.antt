@@ -1,6 +1,5 @@
 -- The machine refuses by the first row of the paper's table that holds. By the event's kind: each rule's aim and turn give their refusals in
 -- the order of the rows, and the rows of other kinds do not hold.
--- Assumes nothing.
 use mathlib.Core.Path.{_≡_, refl, sym, _∙_, subst}
 use mathlib.Core.Bool.{Bool, true, false, cond, not, _&&_, or-false}
 use mathlib.Core.Logic.{_⊎_, inl, inr, ⊎-elim}
@@ -21,7 +20,7 @@ use Rattle.table.specs.declared.Record.{Record}
 use Rattle.table.specs.declared.Table.{Table}
 use Rattle.table.specs.declared.Found.{Found}
 use Rattle.table.specs.declared.Found.the-variants.{At, Nothing}
-use Rattle.table.specs.Places.{sameState, sameSide, isFree, isOf, sideOf, sideAt, waitingOn, recordAt}
+use Rattle.table.specs.Places.{sameState, sameSide, isFree, isOf, sideOf, sideAt, waitingOn, recordAt, placeCount, indexOf}
 use Rattle.table.specs.Timers.{timerSet}
 use Rattle.table.specs.Search.{holds, isAt, findCall, lowestIn}
 use Rattle.table.specs.Ranks.{nextWaiting}
@@ -44,10 +43,10 @@ use Rattle.events.specs.declared.sought.Sought.the-variants.{Held, Never}
 use Rattle.events.specs.Sought.{isTimer, soughtPickup}
 use Rattle.events.proofs.Released.{error-in-release}
 use Rattle.events.proofs.Refusals.{pickup-numbered}
-use Rattle.step.specs.Aim.{aimAt, indexOf, isProposed, chosen, unlessHeld, aimNew, aimNamed, aimFor}
+use Rattle.step.specs.Aim.{aimAt, isProposed, chosen, unlessHeld, aimNew, aimNamed, aimFor}
 use Rattle.step.specs.Step.{carriedOut, stepOf}
 use Rattle.order.specs.Order.{firstOf, isFound, recordFound, sideFound, isAsked, rows, InOrder}
-use Rattle.step.proofs.Aims.{proposed-side}
+use Rattle.table.proofs.Sides.{proposed-side}
 use Rattle.step.proofs.Stepped.{settled-number}
 
 -- ---- the number of an outcome
@@ -136,7 +135,7 @@ choice-is e n q = λ i. record { kind = e .kind; call = e .call; place = e .plac
 
 -- ---- the number of a step, by its aim
 
-module _ (t : Table) (size : length (t .places) ≡ 96) (e : Event) where
+module _ (t : Table) (size : length (t .places) ≡ placeCount) (e : Event) where
   -- a signal at an occupied place
   at-place : (s : Signal) (i : ℕ) → isFree (recordAt t i .state) ≡ false → carriedOut (On s) t e (To i) .answer .number ≡ outcomeNumber (turnOn s (sideAt i) (recordAt t i) e)
   at-place s i busy = rw busy (settled-number t e i (recordAt t i .call) (turnOn s (sideAt i) (recordAt t i) e))
@@ -190,7 +189,7 @@ module _ (t : Table) (size : length (t .places) ≡ 96) (e : Event) where
       by Nothing = place (isProposed t d (e .place)) refl
 
 -- a pickup of a call that waits on a side, and the rows 2, 5, 6, 7, 11 and 12 of a pickup
-module _ (t : Table) (size : length (t .places) ≡ 96) (s : Signal) (number : (e : Event) (a : Side) (r : Record) → outcomeNumber (turnOn s a r e) ≡ takenNumber (r .state)) where
+module _ (t : Table) (size : length (t .places) ≡ placeCount) (s : Signal) (number : (e : Event) (a : Side) (r : Record) → outcomeNumber (turnOn s a r e) ≡ takenNumber (r .state)) where
   waiting-number : (e : Event) (a : Side) → carriedOut (On s) t e (aimAt (nextWaiting t a) NothingWaits) .answer .number ≡ cond (not (isFound (nextWaiting t a))) 6 0
   waiting-number e a = by (nextWaiting t a) refl
     where
@@ -211,7 +210,7 @@ module _ (t : Table) (size : length (t .places) ≡ 96) (s : Signal) (number : (
       by : (f : Found) → nextWaiting t a ≡ f → carriedOut (On s) t e (aimAt f NothingWaits) .answer .number ≡ cond (not (isFound f)) 6 0
       by Nothing q = refl
       by (At i) q =
-          let w = waits a (recordAt t i .state) (and-right (sameSide (sideAt i) a) _ (found-leads t a 96 i q .1)) in
+          let w = waits a (recordAt t i .state) (and-right (sameSide (sideAt i) a) _ (found-leads t a placeCount i q .1)) in
           at-place t size e s i (w .0) ∙ number e (sideAt i) (recordAt t i) ∙ rw (w .1)
 
   abbrev PickupRows : Event → Type 0
@@ -246,7 +245,7 @@ module _ (t : Table) (size : length (t .places) ≡ 96) (s : Signal) (number : (
 above : (k n : ℕ) → n ≤ k → (k ≡ n → ⊥) → suc n ≤ k
 above k n h ne = ⊎-elim (λ q. absurd (ne (sym q))) (λ l. l) (eq-or-lt-of-le h)
 
-module _ (t : Table) (size : length (t .places) ≡ 96) (sound : isSound t ≡ true) where
+module _ (t : Table) (size : length (t .places) ≡ placeCount) (sound : isSound t ≡ true) where
   abbrev Ordered : Event → Type 0
   Ordered e = stepOf t e .answer .number ≡ firstOf (rows t e)
 

@@ -1,7 +1,6 @@
 -- The paper's table of refusals row by row (document 01, "Refusal numbers", "exactly when", "Checked in this order from the top; 0 is done."),
 -- and the first row that holds. This is a second reading of the same rules beside the machine; `in-order`, proofs/Order.antt, shows
 -- that the machine's number is always this one.
--- Assumes nothing.
 use mathlib.Core.Path.{_≡_}
 use mathlib.Core.Bool.{Bool, true, false, cond, not, _&&_, _||_}
 use mathlib.Core.List.{List, [], _∷_}

@@ -1,7 +1,6 @@
 -- What goes out with an event: connections that the place or the event had, invokes of 16 bits, and of two messages one that carries neither.
 -- By the cases of `Does`. What is shown of connections holds of any property that 0 has: with none for `answers-light`, with the
 -- bound of 16 bits for the lengths.
--- Assumes nothing.
 use mathlib.Core.Path.{_≡_, refl}
 use mathlib.Core.Logic.{_⊎_, inl, inr}
 use Prim.Native.Nat.{ℕ, _≤_}

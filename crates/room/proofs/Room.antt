@@ -1,6 +1,5 @@
 -- The line of an answer is no longer than its numbers allow: one digit for each small one, five for at most one connection or invoke, two for
 -- the number or for the place. By the four cases of `Stepped`.
--- Assumes nothing.
 use mathlib.Core.Path.{_≡_, refl, ap}
 use mathlib.Core.Logic.{_⊎_, inl, inr, ⊎-elim}
 use Prim.Native.Nat.{ℕ, _+_, _≤_, _<_}
@@ -11,9 +10,9 @@ use Rattle.table.specs.declared.Place.{Place}
 use Rattle.table.specs.declared.Connection.{Connection}
 use Rattle.table.specs.declared.Invoke.{Invoke}
 use Rattle.table.specs.declared.Table.{Table}
-use Rattle.table.specs.Search.{below}
+use Rattle.laws.specs.Lists.{below}
 use Rattle.table.specs.Ranks.{earliest, closedUp}
-use Rattle.table.specs.Places.{noPlace, noConnection, noInvoke, sideAt, recordAt}
+use Rattle.table.specs.Places.{noPlace, noConnection, noInvoke, sideAt, recordAt, placeCount}
 use Rattle.events.specs.declared.Event.{Event}
 use Rattle.events.specs.declared.Answer.{Answer}
 use Rattle.events.specs.declared.message.Sent.{Sent}
@@ -45,7 +44,7 @@ module _ (P : ℕ → Type 0) (at-0 : P 0) where
   alone : (a : Answer) → Within P (a .first) → a .second ≡ saying 0 NoMessage .second → Outgoing P a
   alone a h q = record { first = h; second = rw q (nothing-sent P at-0); one-bare = inr (rw q nothing-bare) }
 
-  outgoing : (t : Table) (all : Full t) (e : Event) → ((i : ℕ) → i < 96 → P (recordAt t i .connection .0)) → P (e .connection .0)
+  outgoing : (t : Table) (all : Full t) (e : Event) → ((i : ℕ) → i < placeCount → P (recordAt t i .connection .0)) → P (e .connection .0)
       → (s : Step) → Stepped t (all .0) e s → Outgoing P (s .answer)
   outgoing t all e held given s (kept w) = alone (s .answer) (refusal-sent P at-0 (e .connection) (ruleOf (e .kind)) _ given (tells (e .connection) (ruleOf (e .kind)) w)) refl
   outgoing t all e held given s (begun d i sound rule room) = alone (s .answer) (greeting-sent P at-0 d) refl
@@ -153,7 +152,7 @@ module _ (a : Answer) (small : Small a) (light : Light a) (typed : Typed a) wher
 
 -- ---- of every table and event
 
-call-long : (t : Table) (all : Full t) (e : Event) → ((i : ℕ) → i < 96 → length (recordAt t i .call) ≡ 16) → length (e .call) ≡ 16
+call-long : (t : Table) (all : Full t) (e : Event) → ((i : ℕ) → i < placeCount → length (recordAt t i .call) ≡ 16) → length (e .call) ≡ 16
     → (s : Step) → Stepped t (all .0) e s → length (s .answer .call) ≡ 16
 call-long t all e held given s (kept w) = refl
 call-long t all e held given s (begun d i sound rule room) = given

@@ -1,14 +1,13 @@
 -- How much room the stack sets aside for the line of an answer (document 02, Q-2: "no line of an answer the table gives is longer than 77
 -- octets, line feed included"), and the longest line that is really given. Each statement is proved in `proofs/Room.antt` under the name
 -- that stands beside it.
--- Assumes nothing.
 use mathlib.Core.Path.{_≡_}
 use mathlib.Core.Logic.{_⊎_}
 use mathlib.Core.List.{List, [], _∷_}
 use Prim.Native.Nat.{ℕ, _≤_, _<_}
 use lib.ListN.{length}
 use Rattle.table.specs.declared.Table.{Table}
-use Rattle.table.specs.Places.{noPlace, noConnection, noInvoke, emptyTable, recordAt}
+use Rattle.table.specs.Places.{noPlace, noConnection, noInvoke, emptyTable, recordAt, placeCount}
 use Rattle.events.specs.declared.Event.{Event}
 use Rattle.events.specs.declared.Answer.{Answer}
 use Rattle.events.specs.declared.message.Sent.{Sent}
@@ -23,8 +22,8 @@ use Rattle.lines.specs.AnswerLine.{answerLine, answerRoom}
 -- of a table: 96 places, calls of 16 octets, connections of 16 bits
 pub record TypedTable (t : Table) : Type 0 where
   pub size : Full t
-  pub call : (i : ℕ) → i < 96 → length (recordAt t i .call) ≡ 16
-  pub connection : (i : ℕ) → i < 96 → recordAt t i .connection .0 ≤ 65535
+  pub call : (i : ℕ) → i < placeCount → length (recordAt t i .call) ≡ 16
+  pub connection : (i : ℕ) → i < placeCount → recordAt t i .connection .0 ≤ 65535
 
 -- of an event
 pub record TypedEvent (e : Event) : Type 0 where

@@ -1,7 +1,6 @@
 -- The running stays, one after the other, build up the table that holds them; the ended ones before them change nothing. On the way
 -- each place is as it will be, or free and still to come (`Due`). `Inv` is what holds of a table and of the stays that led to it; with
 -- it the stays are replayed from the empty table to this one (`replayed`).
--- Assumes nothing.
 use mathlib.Core.Path.{_≡_, refl, sym, _∙_}
 use mathlib.Core.Logic.{_⊎_, inl, inr}
 use mathlib.Core.List.{List, [], _∷_, _++_, append-nil}

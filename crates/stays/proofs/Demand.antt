@@ -1,8 +1,7 @@
 -- THE THEOREMS of `specs/Demand.antt`, by their names there. The first three hold of every machine that keeps the laws, and so of
 -- the table; the next three are proved in `EachStay`, `Requester` and `Fair`, and the last is computed.
--- Assumes nothing.
 use mathlib.Core.Path.{refl}
-use Rattle.table.specs.Search.{below}
+use Rattle.laws.specs.Lists.{below}
 use Rattle.stays.specs.ParkTable.{machine}
 use Rattle.stays.specs.Demand.{ReplaysByStay, HasSameEvents, HasOneResult, StaysInOrder}
 use Rattle.stays.proofs.Keep as Keep

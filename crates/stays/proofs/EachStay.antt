@@ -1,7 +1,6 @@
 -- What a stay is like: it begins with its park or alert, all its answers name one place and one call, and only the last event of an
 -- ended one frees the place. A stay is built event by event (`Part`, then `Whole`); each turn has its facts, and they are put together
 -- at the end of the list.
--- Assumes nothing.
 use mathlib.Core.Path.{_≡_, refl, sym, _∙_}
 use mathlib.Core.Bool.{Bool, true, false, cond}
 use mathlib.Core.List.{List, [], _∷_, _++_}
@@ -19,7 +18,6 @@ use Rattle.events.specs.declared.Answer.{Answer}
 use Rattle.events.specs.declared.rule.Rule.{Rule}
 use Rattle.events.specs.declared.rule.Rule.the-variants.{Start, On, Unknown}
 use Rattle.events.specs.Rule.{ruleOf}
-use Rattle.step.proofs.Aims.{free-number}
 use Rattle.stays.specs.Stays.{starts, goes-on, ends, Stay, Every}
 use Rattle.stays.specs.ParkTable.{markBy, machine}
 use Rattle.stays.specs.Demand.{Act, staysOf, IsStart, Begins, OfStay, Frees, Runs, Ended, EachStay}
@@ -58,7 +56,7 @@ module _ {p : ℕ} {r : Record} {e : Event} where
   occupied : {a : Answer} {s : Record} → Turned p r e a s → holds (e .call) s ≡ true → a .state ≡ 0 → ⊥
   occupied {a} {s} t h q =
       let zero : stateNumber (s .state) ≡ 0 = sym (answer-of t .2) ∙ q in
-      not-both (free-number (s .state) ∙ eq-eqb (stateNumber (s .state)) 0 zero) (holds-occupied (e .call) s h)
+      not-both (eq-eqb (stateNumber (s .state)) 0 zero) (holds-occupied (e .call) s h)
 
 -- ---- a stay
 

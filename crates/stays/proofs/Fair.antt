@@ -1,6 +1,5 @@
 -- The call that is served with choice 1 or 2 began its stay before every other that waits on its side: it has the lowest rank of those that wait
 -- (`takes-first`), and ranks go by the order of the starts (`rank-before`).
--- Assumes nothing.
 use mathlib.Core.Path.{_≡_, sym, _∙_}
 use mathlib.Core.Logic.{_⊎_, inl, inr, ⊎-elim}
 use mathlib.Core.Bool.{true, false, true≢false}
@@ -14,11 +13,10 @@ use Rattle.table.specs.declared.State.{State}
 use Rattle.table.specs.declared.Side.{Side}
 use Rattle.table.specs.declared.Side.the-variants.{Position, Line}
 use Rattle.table.specs.declared.Table.{Table}
-use Rattle.table.specs.Places.{stateNumber, isFree, sameState, sameSide, waitingOn, sideAt, blank, recordAt, rankAt, emptyTable}
-use Rattle.table.proofs.RankLaws.{side-is, same-side}
+use Rattle.table.specs.Places.{stateNumber, isFree, sameState, sameSide, waitingOn, sideAt, blank, recordAt, rankAt, emptyTable, placeCount}
+use Rattle.table.proofs.Sides.{side-is, same-side}
 use Rattle.step.specs.Promises.{Waits}
 use Rattle.step.proofs.Promises.{accepted-at-one-place}
-use Rattle.step.proofs.Aims.{free-number}
 use Rattle.step.proofs.First.{takes-first}
 use Rattle.stays.specs.Stays.{In, Before, first, later, final}
 use Rattle.stays.specs.ParkTable.{machine}
@@ -43,8 +41,8 @@ either i j (q ∷ qs) (inr a) (inr b) = deeper (either i j qs a b)
 
 -- a state in which a call waits is not free
 waiting-held : (a : Side) (s : State) → sameState s (waitingOn a) ≡ true → isFree s ≡ false
-waiting-held Position s h = let one : stateNumber s ≡ 1 = eqb-true (stateNumber s) 1 h in free-number s ∙ rw one
-waiting-held Line s h = let two : stateNumber s ≡ 2 = eqb-true (stateNumber s) 2 h in free-number s ∙ rw two
+waiting-held Position s h = let one : stateNumber s ≡ 1 = eqb-true (stateNumber s) 1 h in rw one
+waiting-held Line s h = let two : stateNumber s ≡ 2 = eqb-true (stateNumber s) 2 h in rw two
 
 module _ (t : Table) (o : List ℕ) (O : Ordered t o) (a : Side) where
   held : (i : ℕ) → Waits t a i → isFree (recordAt t i .state) ≡ false
@@ -53,18 +51,18 @@ module _ (t : Table) (o : List ℕ) (O : Ordered t o) (a : Side) where
   waits-there : (i : ℕ) → Waits t a i → In i o
   waits-there i w = O .all i (held i w)
 
-  waits-inside : (i : ℕ) → Waits t a i → i < 96
+  waits-inside : (i : ℕ) → Waits t a i → i < placeCount
   waits-inside i w =
       ⊎-elim (λ h. h)
       (λ out. let past : recordAt t i ≡ blank = List·getD-eq-default (t .places) blank (omega (arith, O .full .0, out)) in absurd (true≢false (rw past at (held i w))))
-      (less-or i 96)
+      (less-or i placeCount)
 
   waits-side : (i : ℕ) → Waits t a i → sideAt i ≡ a
   waits-side i w = side-is (sideAt i) a (and-left (sameSide (sideAt i) a) _ w)
 
   -- no call that waits on the side began before the one with the lowest rank
-  least-first : (i : ℕ) → i < 96 → Waits t a i → ((j : ℕ) → j < 96 → Waits t a j → rankAt t i ≤ rankAt t j)
-      → (j : ℕ) → j < 96 → Waits t a j → (j ≡ i) ⊎ Before i j o
+  least-first : (i : ℕ) → i < placeCount → Waits t a i → ((j : ℕ) → j < placeCount → Waits t a j → rankAt t i ≤ rankAt t j)
+      → (j : ℕ) → j < placeCount → Waits t a j → (j ≡ i) ⊎ Before i j o
   least-first i hi wi least j hj wj = by (either i j o (waits-there i wi) (waits-there j wj))
     where
       by : (j ≡ i) ⊎ (Before i j o ⊎ Before j i o) → (j ≡ i) ⊎ Before i j o

@@ -1,7 +1,6 @@
 -- What a machine has to give so that its stays can be told one by one: what one turn does at one place, what a table shows at its
 -- places, and that an accepted step is a turn at its place (`taken`), which is done again in every table that shows the same there and
 -- has the call nowhere else (`again`).
--- Assumes nothing.
 use mathlib.Core.Path.{_≡_}
 use mathlib.Core.Logic.{_≢_}
 use mathlib.Core.Bool.{true, false}

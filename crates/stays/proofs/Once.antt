@@ -1,6 +1,5 @@
 -- In no stay are two pickup results accepted: before the first one none is counted; a result that does not end the stay spends its
 -- record, and from there on no result is accepted.
--- Assumes nothing.
 use mathlib.Core.Path.{_≡_, refl}
 use mathlib.Core.Logic.{_⊎_, inl, inr}
 use mathlib.Core.Bool.{Bool, true, false}

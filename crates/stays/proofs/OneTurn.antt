@@ -1,22 +1,21 @@
 -- The step of a table and the turn at one place. An accepted event, by name, is a turn at the place of its answer (`took`, by the
 -- cases of `Stepped`); and a turn is done again, with the same answer, in every sound table that has its record at the place and its
 -- call nowhere else (`repeats`: the search by name finds the place, or a park or an alert gets the place that it proposes).
--- Assumes nothing.
 use mathlib.Core.Path.{_≡_, refl, sym, ap, ap₂, _∙_}
 use mathlib.Core.Bool.{Bool, true, false, cond}
 use mathlib.Core.Logic.{⊎-elim}
-use Prim.Native.Nat.{ℕ, suc, _+_, _<_}
+use Prim.Native.Nat.{ℕ, _+_, _<_}
 use native.Mathlib.Omega.{arith}
 use lib.Dec.{ltb}
 use lib.ListN.{length}
-use borrow.Author.Tests.{lt-ltb, le-ltb}
-use Rattle.laws.proofs.Bools.{not-both, equal-or, less-or}
+use borrow.Author.Tests.{lt-ltb}
+use Rattle.laws.proofs.Bools.{not-both, equal-or}
 use Rattle.table.specs.declared.Side.{Side}
 use Rattle.table.specs.declared.Record.{Record}
 use Rattle.table.specs.declared.Table.{Table}
 use Rattle.table.specs.declared.Found.{Found}
 use Rattle.table.specs.declared.Found.the-variants.{At, Nothing}
-use Rattle.table.specs.Places.{sideOf, isOf, sideAt, placeAt, freeRecord, recordAt}
+use Rattle.table.specs.Places.{sideOf, isOf, sideAt, placeAt, freeRecord, recordAt, placeCount, indexOf}
 use Rattle.table.specs.Search.{holds, findCall}
 use Rattle.table.specs.Sound.{isSound}
 use Rattle.table.proofs.Calls.{holds-same, holds-occupied, occupied-holds}
@@ -37,30 +36,14 @@ use Rattle.events.specs.Rule.{ruleOf}
 use Rattle.events.specs.Turn.{turnOn, turn}
 use Rattle.events.specs.declared.sought.Sought.the-variants.{Held, Never}
 use Rattle.events.specs.Sought.{isTimer}
-use Rattle.step.specs.Aim.{indexOf, chosen, aimNamed, aimNew, aimFor, aim}
+use Rattle.step.specs.Aim.{chosen, aimNamed, aimNew, aimFor, aim}
 use Rattle.events.specs.Act.{stayCall}
 use Rattle.step.specs.Step.{settled, stepOf}
 use Rattle.step.specs.Promises.{namesCall, AtOnePlace}
 use Rattle.step.proofs.Stepped.{Reached, Stepped, kept, begun, ended, went-on}
+use Rattle.table.proofs.Sides.{place-index, place-side}
 use Rattle.stays.specs.ParkTable.{byAnswer}
 use Rattle.stays.proofs.Turned.{Acts, Proposes, Turned, opened, closed, carried}
-
--- ---- places
-
-pub place-index : (i : ℕ) → i < 96 → indexOf (placeAt i .0) ≡ i
-place-index i h = let in-table : ltb i 96 ≡ true = lt-ltb i 96 h in let at : i + 1 ≡ suc i = omega arith in rw (in-table, at)
-
-place-side : (i : ℕ) → i < 96 → isOf (sideAt i) (sideOf (placeAt i)) ≡ true
-place-side i h =
-    let in-table : ltb i 96 ≡ true = lt-ltb i 96 h in
-    let first : ltb (i + 1) 1 ≡ false = le-ltb (i + 1) 1 (omega arith) in
-    let last : ltb (i + 1) 97 ≡ true = lt-ltb (i + 1) 97 (omega arith) in
-    ⊎-elim
-    (λ low. let side = lt-ltb (i + 1) 65 (omega arith) in rw (in-table, first, side))
-    (λ high. let side = le-ltb (i + 1) 65 (omega arith) in rw (in-table, first, side, last))
-    (less-or i 64)
-
--- ---- an accepted event is a turn
 
 -- a turn looks at neither call nor place nor choice
 turn-by-name : (k : Signal) (d : Side) (r : Record) (e : Event) (a : Answer) → turnOn k d r (byAnswer e a) ≡ turnOn k d r e
@@ -97,7 +80,7 @@ pub record Took (t : Table) (e : Event) (s : Step) : Type 0 where
   pub turned : Turned at (recordAt t at) (byAnswer e (s .answer)) (s .answer) after
   pub table : s .table ≡ put t at after
 
-module _ (t : Table) (size : length (t .places) ≡ 96) (e : Event) where
+module _ (t : Table) (size : length (t .places) ≡ placeCount) (e : Event) where
   acts : (k : Signal) (i : ℕ) (a : Answer) → a .call ≡ recordAt t i .call → Reached t e k i → Acts k i (recordAt t i) (byAnswer e a)
   acts k i a c at = record {
     inside = at .inside;
@@ -108,7 +91,7 @@ module _ (t : Table) (size : length (t .places) ≡ 96) (e : Event) where
 
   pub took : (s : Step) → Stepped t size e s → AtOnePlace t s → Took t e s
   took s (kept w) x =
-      let in-table : ltb (x .index) 96 ≡ true = lt-ltb (x .index) 96 (x .inside) in
+      let in-table : ltb (x .index) placeCount ≡ true = lt-ltb (x .index) placeCount (x .inside) in
       let no : 0 ≡ x .index + 1 = ap (λ p. p .0) (rw in-table at (x .place)) in
       absurd (omega arith)
   took s (begun d i sound rule room) x = record {
@@ -120,7 +103,7 @@ module _ (t : Table) (size : length (t .places) ≡ 96) (e : Event) where
       rule = rule;
       side = room .side;
       proposed = refl;
-      was = facts-of-test t size sound .free-is-zeros i (room .inside) (room .vacant);
+      was = facts-of-test t sound .free-is-zeros i (room .inside) (room .vacant);
     });
     table = refl;
   }
@@ -151,10 +134,10 @@ aim-by-name Release t e h = refl
 aim-by-name Answered t e h = refl
 aim-by-name Expiry t e h = rw h
 
-module _ (t : Table) (size : length (t .places) ≡ 96) (sound : isSound t ≡ true) (e : Event) (p : ℕ)
-    (alone : (j : ℕ) → j < 96 → (j ≡ p → ⊥) → holds (e .call) (recordAt t j) ≡ true → ⊥) where
+module _ (t : Table) (size : length (t .places) ≡ placeCount) (sound : isSound t ≡ true) (e : Event) (p : ℕ)
+    (alone : (j : ℕ) → j < placeCount → (j ≡ p → ⊥) → holds (e .call) (recordAt t j) ≡ true → ⊥) where
   -- the only place that holds the call is found
-  found : p < 96 → holds (e .call) (recordAt t p) ≡ true → findCall t (e .call) ≡ At p
+  found : p < placeCount → holds (e .call) (recordAt t p) ≡ true → findCall t (e .call) ≡ At p
   found inside held = by (findCall t (e .call)) refl
     where
       by : (f : Found) → findCall t (e .call) ≡ f → f ≡ At p

@@ -1,6 +1,5 @@
 -- The ranks of a table are those that the order of the starts gives (`Ordered`), and a turn keeps that: a start puts its place at the end of the
 -- order, an end takes it out, and any other event leaves order and ranks.
--- Assumes nothing.
 use mathlib.Core.Path.{_≡_, refl, sym, ap, subst, _∙_}
 use mathlib.Core.Logic.{_≢_, _⊎_, inl, inr, ⊎-elim}
 use mathlib.Core.Bool.{Bool, true, false, cond, not, _&&_}
@@ -13,10 +12,11 @@ use Rattle.laws.proofs.Bools.{not-both, equal-or}
 use Rattle.table.specs.declared.Side.{Side}
 use Rattle.table.specs.declared.Record.{Record}
 use Rattle.table.specs.declared.Table.{Table}
-use Rattle.table.specs.Places.{isFree, sameSide, sideAt, recordAt, rankAt}
+use Rattle.table.specs.Places.{isFree, sameSide, sideAt, recordAt, rankAt, placeCount}
 use Rattle.table.specs.Sound.{isSound}
 use Rattle.table.specs.Ranks.{callsOn, put}
-use Rattle.table.proofs.RankLaws.{side-is, same-side, other-side, Drops, drops, keeps, aside, drops-view}
+use Rattle.table.proofs.Sides.{side-is, same-side, other-side}
+use Rattle.table.proofs.RankLaws.{Drops, drops, keeps, aside, drops-view}
 use Rattle.table.proofs.Keep.{put-size, put-wide, put-here, put-other, calls-put, rank-new, rank-kept, rank-freed, ranks-stay, ranks-drop}
 use Rattle.step.specs.Promises.{Full}
 use Rattle.stays.specs.Stays.{starts, whether, one-if, count, In}
@@ -42,7 +42,7 @@ pub record Ordered (t : Table) (o : List ℕ) : Type 0 where
   pub used : (j : ℕ) → In j o → isFree (recordAt t j .state) ≡ false
   pub all : (j : ℕ) → isFree (recordAt t j .state) ≡ false → In j o
   pub calls : (a : Side) → callsOn t a ≡ count (onSide a) o
-  pub ranks : (j : ℕ) → j < 96 → rankAt t j ≡ rank beside 0 o j
+  pub ranks : (j : ℕ) → j < placeCount → rankAt t j ≡ rank beside 0 o j
 
 -- ---- counting a side
 
@@ -64,11 +64,11 @@ beside-alike j p h q = let same : sideAt p ≡ sideAt j = side-is (sideAt p) (si
 
 -- ---- a record put anew
 
-module _ (t : Table) (o : List ℕ) (O : Ordered t o) (p : ℕ) (inside : p < 96) (s : Record) (still : isSound (put t p s) ≡ true) where
-  abbrev size : length (t .places) ≡ 96
+module _ (t : Table) (o : List ℕ) (O : Ordered t o) (p : ℕ) (inside : p < placeCount) (s : Record) (still : isSound (put t p s) ≡ true) where
+  abbrev size : length (t .places) ≡ placeCount
   size = O .full .0
 
-  abbrev wide : length (t .ranks) ≡ 96
+  abbrev wide : length (t .ranks) ≡ placeCount
   wide = O .full .1
 
   full-after : Full (put t p s)
@@ -143,7 +143,7 @@ module _ (t : Table) (o : List ℕ) (O : Ordered t o) (p : ℕ) (inside : p < 96
     there : In p o
     there = O .all p was
 
-    dropped : (j : ℕ) → j < 96 → j ≢ p → (x : ℕ) → Drops (sideAt p) (rankAt t p) j (rankAt t j) x → x ≡ rank beside 0 (without p o) j
+    dropped : (j : ℕ) → j < placeCount → j ≢ p → (x : ℕ) → Drops (sideAt p) (rankAt t p) j (rankAt t j) x → x ≡ rank beside 0 (without p o) j
     dropped j h n x (drops side lt) =
         let d = end-beside beside j p n (same-side (sideAt p) (sideAt j) (sym side)) (beside-alike j p (same-side (sideAt p) (sideAt j) (sym side))) 0 o (O .distinct) there in
         let e = d .0 (omega (arith, O .ranks p inside, O .ranks j h, lt)) in

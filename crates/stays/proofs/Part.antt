@@ -1,6 +1,5 @@
 -- A stay by itself, and its replay in any table that has its place free and its call nowhere. A stay is built at its end, event by
 -- event, as the fold builds it (`Part`, and `Whole` with its end); it is replayed turn by turn, by the law `again`.
--- Assumes nothing.
 use mathlib.Core.Path.{_≡_, refl}
 use mathlib.Core.Logic.{_≢_}
 use mathlib.Core.List.{List, [], _∷_, _++_}

@@ -1,6 +1,5 @@
 -- The machine that refuses everything meets all that demand 3 states: its runs are empty. So demand 3 by itself says too little, and it is
 -- proved over the definition that demand 2 gives.
--- Assumes nothing.
 use mathlib.Core.Path.{_≡_, refl}
 use mathlib.Core.List.{List, [], _∷_}
 use Rattle.table.specs.declared.Table.{Table}

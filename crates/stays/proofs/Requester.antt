@@ -1,7 +1,6 @@
 -- Who is told how a pickrequ came out: the last pickrequ of the stay. State 4 is entered by a pickrequ alone, which leaves its connection in
 -- the record (`requested`); what happens in state 4 is told on the record's connection (`told-once`), and in no other state is anything told
 -- (`told-nothing`). Along a stay, built event by event, the record and the list of events so far agree (`Agrees`).
--- Assumes nothing.
 use mathlib.Core.Path.{_≡_, refl, sym, ap, _∙_, subst}
 use mathlib.Core.List.{List, [], _∷_, _++_, append-assoc, append-nil}
 use mathlib.Core.Logic.{⊎-elim}
@@ -9,7 +8,7 @@ use Prim.Native.Nat.{ℕ}
 use native.Mathlib.Omega.{arith}
 use Rattle.table.specs.declared.Invoke.{Invoke}
 use Rattle.table.specs.declared.State.{State}
-use Rattle.table.specs.declared.State.the-variants.{Free, ParkWaiting, LineWaiting, Requested, RemoteRequested, HandedOver}
+use Rattle.table.specs.declared.State.the-variants.{RemoteRequested}
 use Rattle.table.specs.declared.Side.{Side}
 use Rattle.table.specs.declared.Side.the-variants.{Position, Line}
 use Rattle.table.specs.declared.Record.{Record}
@@ -30,6 +29,7 @@ use Rattle.events.proofs.Outcomes.{GoesOn, asked-here, asked-from, handed-over,
 use Rattle.events.proofs.Replies.{told, silent}
 use Rattle.step.proofs.Turns.{result-in-4}
 use Rattle.step.proofs.Pickers.{greeting-silent}
+use Rattle.table.proofs.States.{same-number}
 use Rattle.stays.specs.ParkTable.{machine}
 use Rattle.stays.specs.Demand.{Act, LastRequest, asks, stateAfter, TellsRequester, AllTell, TellsItsRequester}
 use Rattle.stays.proofs.Part.{Part, begun, onward, Whole, whole}
@@ -54,14 +54,6 @@ to-4 k a r e g n m t q = by g n m (rw t at (does k a r e)) q
     by g n m (handed-over c w) h = absurd (omega arith)
     by g n m (turned-down x c w) h = absurd (waits≢4 a h)
 
-state-4 : (s : State) → stateNumber s ≡ 4 → s ≡ RemoteRequested
-state-4 Free h = absurd (omega arith)
-state-4 ParkWaiting h = absurd (omega arith)
-state-4 LineWaiting h = absurd (omega arith)
-state-4 Requested h = absurd (omega arith)
-state-4 RemoteRequested h = refl
-state-4 HandedOver h = absurd (omega arith)
-
 -- ---- one turn
 
 module _ {p : ℕ} {r : Record} {e : Event} where
@@ -72,8 +64,8 @@ module _ {p : ℕ} {r : Record} {e : Event} where
 
   told-once : {a : Answer} {s : Record} → Turned p r e a s → stateNumber (r .state) ≡ 4 → RepliesOnce (r .connection) (a .first) (a .second)
   told-once (opened d o) q = absurd (let z : _≡_ {A = ℕ} 0 4 = rw (o .was) at q in omega arith)
-  told-once (closed k first second h t) q = rw t at (told k (sideAt p) r e (state-4 (r .state) q))
-  told-once (carried k g n m h t) q = (rw t at (told k (sideAt p) r e (state-4 (r .state) q))) .0
+  told-once (closed k first second h t) q = rw t at (told k (sideAt p) r e (same-number (r .state) RemoteRequested q))
+  told-once (carried k g n m h t) q = (rw t at (told k (sideAt p) r e (same-number (r .state) RemoteRequested q))) .0
 
   told-result : {a : Answer} {s : Record} → Turned p r e a s → stateNumber (r .state) ≡ 4 → ruleOf (e .kind) ≡ On PickupResult → a .first .message ≡ 5
   told-result (opened d o) q rule = absurd (let z : _≡_ {A = ℕ} 0 1 = cc (sym (o .rule) ∙ rule) in omega arith)
@@ -81,13 +73,13 @@ module _ {p : ℕ} {r : Record} {e : Event} where
       let same : k ≡ PickupResult = one-signal (h .rule) rule in
       let five : turnOn PickupResult (sideAt p) r e ≡ Freed first second = rw same at t in
       ⊎-elim (λ w. absurd (let z : _≡_ {A = ℕ} 0 1 = cc (sym five ∙ w) in omega arith)) (λ w. absurd (let z : _≡_ {A = ℕ} 0 1 = cc (sym five ∙ w) in omega arith))
-      (result-in-4 (sideAt p) r e (state-4 (r .state) q))
+      (result-in-4 (sideAt p) r e (same-number (r .state) RemoteRequested q))
   told-result (carried k g n m h t) q rule =
       let same : k ≡ PickupResult = one-signal (h .rule) rule in
       let five : turnOn PickupResult (sideAt p) r e ≡ Becomes g n m = rw same at t in
       ⊎-elim (λ w. absurd (let z : _≡_ {A = ℕ} 0 1 = cc (sym five ∙ w) in omega arith))
       (λ w. let said : m ≡ PickResult (r .connection) = cc (sym five ∙ w) in rw said)
-      (result-in-4 (sideAt p) r e (state-4 (r .state) q))
+      (result-in-4 (sideAt p) r e (same-number (r .state) RemoteRequested q))
 
   told-nothing : {a : Answer} {s : Record} → Turned p r e a s → (stateNumber (r .state) ≡ 4 → ⊥) → replies (a .first) (a .second) ≡ 0
   told-nothing (opened d o) other = greeting-silent d

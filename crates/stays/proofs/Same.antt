@@ -1,6 +1,5 @@
 -- Stay by stay: the same events, none lost and none doubled. Each event adds one to what is counted of the stays, whether it starts
 -- one, goes on with it or ends it (`Weights`).
--- Assumes nothing.
 use mathlib.Core.Path.{_≡_, refl}
 use mathlib.Core.Bool.{Bool, true, false}
 use mathlib.Core.List.{List, [], _∷_, _++_}

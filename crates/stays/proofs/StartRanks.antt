@@ -1,6 +1,5 @@
 -- Ranks, read off the order in which the stays began: a start gives the next rank of its side; an end lowers the higher ranks of its side by one;
 -- of two places of one side the one that began first has the lower rank. Here `same j q` says that q is on the side of j.
--- Assumes nothing.
 use mathlib.Core.Path.{_≡_, refl, sym, _∙_, ap}
 use mathlib.Core.Logic.{_≢_, inl, inr}
 use mathlib.Core.Bool.{Bool, true, false}

@@ -1,7 +1,6 @@
 -- The table keeps the laws of stays (`laws`). A table shows its records, and by its ranks the order of the starts, where it is full and sound and
 -- the ranks are those of the order (`Ordered`); soundness is kept by every step (`keeps-sound`), so refusal 25 never arises. The laws of a turn are
 -- those of `Turned`; an accepted event and a turn that is done again are those of `OneTurn`.
--- Assumes nothing.
 use mathlib.Core.Path.{_≡_, refl, sym, ap, _∙_, subst}
 use mathlib.Core.Logic.{_≢_, ⊎-elim}
 use mathlib.Core.Bool.{true, false, false≢true}
@@ -19,7 +18,7 @@ use Rattle.table.specs.declared.Record.{Record}
 use Rattle.table.specs.declared.Table.{Table}
 use Rattle.table.specs.declared.Side.{Side}
 use Rattle.table.specs.declared.Side.the-variants.{Position, Line}
-use Rattle.table.specs.Places.{isFree, freeRecord, emptyTable, blank, recordAt}
+use Rattle.table.specs.Places.{isFree, freeRecord, emptyTable, blank, recordAt, placeCount, indexOf}
 use Rattle.table.specs.Ranks.{callsOn, put}
 use Rattle.table.specs.Search.{holds}
 use Rattle.table.specs.Sound.{isSound}
@@ -29,7 +28,6 @@ use Rattle.events.specs.declared.Event.{Event}
 use Rattle.events.specs.declared.Answer.{Answer}
 use Rattle.events.specs.Rule.{ruleOf}
 use Rattle.step.specs.declared.Step.{Step}
-use Rattle.step.specs.Aim.{indexOf}
 use Rattle.step.specs.Step.{stepOf}
 use Rattle.step.proofs.Stepped.{stepped}
 use Rattle.step.proofs.Promises.{keeps-sound, refusal-keeps, accepted-at-one-place}
@@ -52,21 +50,21 @@ read (r ∷ rs) zero h = refl
 read (r ∷ rs) (suc i) h = read rs i (le-of-suc-le-suc h)
 
 module _ (t : Table) (o : List ℕ) (O : Ordered t o) where
-  abbrev size : length (t .places) ≡ 96
+  abbrev size : length (t .places) ≡ placeCount
   size = O .full .0
 
   -- a place that holds a call is inside the table
-  held : (i : ℕ) (c : List ℕ) → holds c (getD (t .places) i freeRecord) ≡ true → (i < 96) × (holds c (recordAt t i) ≡ true)
+  held : (i : ℕ) (c : List ℕ) → holds c (getD (t .places) i freeRecord) ≡ true → (i < placeCount) × (holds c (recordAt t i) ≡ true)
   held i c h =
-      let in-table : i < 96 =
-      ⊎-elim (λ low. low) (λ out. let past : getD (t .places) i freeRecord ≡ freeRecord = List·getD-eq-default (t .places) freeRecord (omega (arith, size)) in never (rw past at h)) (less-or i 96) in
+      let in-table : i < placeCount =
+      ⊎-elim (λ low. low) (λ out. let past : getD (t .places) i freeRecord ≡ freeRecord = List·getD-eq-default (t .places) freeRecord (omega (arith, size)) in never (rw past at h)) (less-or i placeCount) in
       (in-table, rw (read (t .places) i (omega (arith, size))) at h)
 
   pub one-place : (i j : ℕ) (c : List ℕ) → holds c (getD (t .places) i freeRecord) ≡ true → holds c (getD (t .places) j freeRecord) ≡ true → i ≡ j
   one-place i j c h k =
       let a = held i c h in
       let b = held j c k in
-      facts-of-test t size (O .sound) .one-place i j (a .0) (b .0)
+      facts-of-test t (O .sound) .one-place i j (a .0) (b .0)
       (holds-occupied c (recordAt t i) (a .1)) (holds-occupied c (recordAt t j) (b .1))
       (holds-same c (recordAt t i) (a .1) ∙ sym (holds-same c (recordAt t j) (b .1)))
 
@@ -126,8 +124,8 @@ one-table t u o places T U =
 -- the empty table
 empty-record : (j : ℕ) → isFree (recordAt emptyTable j .state) ≡ true
 empty-record j =
-    ⊎-elim (λ h. rw (getD-replicate 96 j freeRecord blank h))
-    (λ h. let past : recordAt emptyTable j ≡ blank = List·getD-eq-default (emptyTable .places) blank h in rw past) (less-or j 96)
+    ⊎-elim (λ h. rw (getD-replicate placeCount j freeRecord blank h))
+    (λ h. let past : recordAt emptyTable j ≡ blank = List·getD-eq-default (emptyTable .places) blank h in rw past) (less-or j placeCount)
 
 pub ordered-empty : Ordered emptyTable []
 ordered-empty = record {
@@ -137,7 +135,7 @@ ordered-empty = record {
   used = λ j i. absurd i;
   all = λ j h. absurd (not-both (empty-record j) h);
   calls = λ a. no-calls a;
-  ranks = λ j h. getD-replicate 96 j 0 0 h;
+  ranks = λ j h. getD-replicate placeCount j 0 0 h;
 }
   where
     no-calls : (a : Side) → callsOn emptyTable a ≡ 0
@@ -150,7 +148,7 @@ abbrev pub laws : Laws machine
 laws = record {
   Core = Record;
   Call = List ℕ;
-  size = 96;
+  size = placeCount;
   free = freeRecord;
   call = λ x. x .event .call;
   Holds = λ r c. holds c r ≡ true;

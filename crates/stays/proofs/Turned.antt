@@ -1,7 +1,6 @@
 -- One turn of the table at one place: an event, as it is named, takes the record of a place to another and is answered. A turn opens
 -- a stay, closes it, or carries it on (`Turned`, the view of one place as `Stepped` is of the table); each law of a turn is read
 -- off the three cases, of which the mark leaves one.
--- Assumes nothing.
 use mathlib.Core.Path.{_≡_, refl, sym, _∙_}
 use mathlib.Core.Bool.{Bool, true, false}
 use mathlib.Core.List.{List}
@@ -15,7 +14,7 @@ use Rattle.table.specs.declared.State.{State}
 use Rattle.table.specs.declared.State.the-variants.{Free, HandedOver}
 use Rattle.table.specs.declared.Side.{Side}
 use Rattle.table.specs.declared.Record.{Record}
-use Rattle.table.specs.Places.{stateNumber, sideAt, placeAt, noInvoke, freeRecord}
+use Rattle.table.specs.Places.{stateNumber, sideAt, placeAt, noInvoke, freeRecord, placeCount}
 use Rattle.table.specs.Search.{holds}
 use Rattle.table.proofs.Calls.{holds-occupied, occupied-holds}
 use Rattle.events.specs.declared.Event.{Event}
@@ -34,7 +33,6 @@ use Rattle.events.specs.Turn.{stateAt, heldRecord, greeting, turnOn}
 use Rattle.events.proofs.Outcomes.{GoesOn, asked-here, asked-from, handed-over, turned-down, does}
 use Rattle.events.specs.Answers.{accepted}
 use Rattle.step.specs.Promises.{namesCall, Move, starts as from-free, goes-on as still-offered, hands-over, ends as to-free, is-left}
-use Rattle.step.proofs.Aims.{free-number}
 use Rattle.step.proofs.Turns.{stage-occupied, move-on}
 use Rattle.stays.specs.Stays.{starts, goes-on, ends}
 use Rattle.stays.specs.ParkTable.{markBy}
@@ -43,14 +41,14 @@ use Rattle.stays.specs.ParkTable.{markBy}
 
 -- a signal, by name, on the call that the record holds
 pub record Acts (k : Signal) (p : ℕ) (r : Record) (e : Event) : Type 0 where
-  pub inside : p < 96
+  pub inside : p < placeCount
   pub rule : ruleOf (e .kind) ≡ On k
   pub named : namesCall (On k) e ≡ true
   pub held : holds (e .call) r ≡ true
 
 -- a park or an alert that proposes this place, which is free and of its side
 pub record Proposes (d : Side) (p : ℕ) (r : Record) (e : Event) : Type 0 where
-  pub inside : p < 96
+  pub inside : p < placeCount
   pub rule : ruleOf (e .kind) ≡ Start d
   pub side : sideAt p ≡ d
   pub proposed : e .place ≡ placeAt p
@@ -115,9 +113,9 @@ module _ {p : ℕ} {r : Record} {e : Event} where
   end-mark h = rw (h .rule)
 
   on-mark : {k : Signal} → Acts k p r e → (g : Stage) → markBy (ruleOf (e .kind)) (stateNumber (stateAt (sideAt p) g)) ≡ goes-on
-  on-mark h g = let busy : eqb (stateNumber (stateAt (sideAt p) g)) 0 ≡ false = sym (free-number (stateAt (sideAt p) g)) ∙ stage-occupied (sideAt p) g in rw (h .rule, busy)
+  on-mark h g = let busy : eqb (stateNumber (stateAt (sideAt p) g)) 0 ≡ false = stage-occupied (sideAt p) g in rw (h .rule, busy)
 
-  pub inside : {a : Answer} {s : Record} → Turned p r e a s → p < 96
+  pub inside : {a : Answer} {s : Record} → Turned p r e a s → p < placeCount
   inside (opened d o) = o .inside
   inside (closed k first second h t) = h .inside
   inside (carried k g n m h t) = h .inside

@@ -1,7 +1,6 @@
 -- A number of each stay, added up over the ended and the running ones, and what one event changes of the sum: one that starts a stay adds the number
 -- of the new one; any other puts that of the longer stay in place of that of the stay so far, whether it goes on with it or ends it. The places of
 -- the running stays are distinct, so that one stay alone is longer.
--- Assumes nothing.
 use mathlib.Core.Path.{_≡_, refl}
 use mathlib.Core.Logic.{inl, inr}
 use mathlib.Core.List.{List, [], _∷_, _++_, map}

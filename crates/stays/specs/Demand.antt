@@ -1,7 +1,6 @@
 -- THE DEMAND, stay by stay, on one page: what is promised of every list of events, from the empty table of document 01, with the ranks of document
 -- 02's Q-4. Each statement is proved in `proofs/Demand.antt` under the name that stands beside it here. The words are those of `Stays.antt`, at
 -- the machine of `ParkTable.antt`.
--- Assumes nothing.
 use mathlib.Core.Path.{_≡_}
 use mathlib.Core.Logic.{_⊎_}
 use mathlib.Core.List.{List, [], _∷_, _++_, map}

@@ -1,18 +1,16 @@
 -- The machine of the demand: one step of the table is `stepOf`, document 01's definition. Beside it stands what is read off an
 -- accepted event and its answer: the event by name, what it does to the stay at its place, and which place that is.
--- Assumes nothing.
 use mathlib.Core.Bool.{cond}
 use Prim.Native.Nat.{ℕ}
 use lib.Dec.{eqb}
 use Rattle.table.specs.declared.Table.{Table}
-use Rattle.table.specs.Places.{emptyTable}
+use Rattle.table.specs.Places.{emptyTable, indexOf}
 use Rattle.events.specs.declared.Event.{Event}
 use Rattle.events.specs.declared.Answer.{Answer}
 use Rattle.events.specs.declared.rule.Rule.{Rule}
 use Rattle.events.specs.declared.rule.Rule.the-variants.{Start, On, Unknown}
 use Rattle.events.specs.declared.rule.Signal.the-variants.{LocalPickup, PickRequest, PickupResult, PickupError, ErrorInRelease, Release, Answered, Expiry}
 use Rattle.events.specs.Rule.{ruleOf}
-use Rattle.step.specs.Aim.{indexOf}
 use Rattle.step.specs.Step.{stepOf}
 use Rattle.stays.specs.Stays.{Mark, starts, goes-on, ends, Machine}
 

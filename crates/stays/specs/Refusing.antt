@@ -1,6 +1,5 @@
 -- A machine that refuses everything: what the statement of demand 3 alone would let pass. It has the table's own types, takes no event and
 -- answers each with the same refusal.
--- Assumes nothing.
 use mathlib.Core.Bool.{false}
 use Rattle.table.specs.declared.Table.{Table}
 use Rattle.table.specs.Places.{emptyTable}

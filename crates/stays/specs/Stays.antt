@@ -1,6 +1,5 @@
 -- Stays: what a machine of places does, stay by stay. The definitions of the demand, over any machine: its runs, the stays of a run
 -- (a fold over the accepted events), and the three parts of the demand that every machine with the laws of `proofs/Laws.antt` meets.
--- Assumes nothing.
 use mathlib.Core.Path.{_≡_}
 use mathlib.Core.Logic.{_⊎_}
 use mathlib.Core.Bool.{Bool, true, false}

@@ -1,7 +1,6 @@
 -- The edges are right: the definitions compute each answer and each table.
--- Assumes nothing.
 use mathlib.Core.Path.{refl}
-use Rattle.table.specs.Search.{below}
+use Rattle.laws.specs.Lists.{below}
 use Rattle.table.specs.Ranks.{earliest, closedUp}
 use Rattle.step.specs.Edges.{AllRight, edges}
 

@@ -1,5 +1,4 @@
 -- With choice 1 or 2 the call that came first is taken: where an event aims at what `nextWaiting` found, that waits and leads (`found-leads`).
--- Assumes nothing.
 use mathlib.Core.Path.{_≡_, sym, subst, _∙_}
 use mathlib.Core.Logic.{_⊎_, inl, inr, ⊎-elim}
 use Prim.Native.Nat.{ℕ, _<_, _≤_}
@@ -8,7 +7,7 @@ use lib.ListN.{length}
 use Rattle.table.specs.declared.Side.{Side}
 use Rattle.table.specs.declared.Side.the-variants.{Position, Line}
 use Rattle.table.specs.declared.Table.{Table}
-use Rattle.table.specs.Places.{rankAt}
+use Rattle.table.specs.Places.{rankAt, placeCount}
 use Rattle.table.specs.Ranks.{nextWaiting}
 use Rattle.table.proofs.RankLaws.{found-leads}
 use Rattle.events.specs.declared.Event.{Event}
@@ -24,16 +23,17 @@ use Rattle.step.specs.declared.aim.Aim.the-variants.{To}
 use Rattle.step.specs.Aim.{aimAt, aimFor, aim}
 use Rattle.step.specs.Step.{stepOf}
 use Rattle.step.specs.Promises.{AtOnePlace, choiceOf, Waits, TakesFirst}
-use Rattle.step.proofs.Aims.{aim-at-to, same-index}
+use Rattle.table.proofs.Sides.{same-index}
+use Rattle.step.proofs.Aims.{aim-at-to}
 use Rattle.step.proofs.Stepped.{Reached, Stepped, kept, begun, ended, went-on, stepped}
 
-module _ (t : Table) (size : length (t .places) ≡ 96) (e : Event) (a : Side) (choice : e .choice ≡ choiceOf a) where
+module _ (t : Table) (size : length (t .places) ≡ placeCount) (e : Event) (a : Side) (choice : e .choice ≡ choiceOf a) where
   -- the index waits on the side, and none that waits there came before it
   abbrev Leads : ℕ → Type 0
-  Leads i = Waits t a i × ((j : ℕ) → j < 96 → Waits t a j → rankAt t i ≤ rankAt t j)
+  Leads i = Waits t a i × ((j : ℕ) → j < placeCount → Waits t a j → rankAt t i ≤ rankAt t j)
 
   next-leads : (i : ℕ) → aimAt (nextWaiting t a) NothingWaits ≡ To i → Leads i
-  next-leads i h = let f = found-leads t a 96 i (aim-at-to (nextWaiting t a) NothingWaits i h) in (f .1, f .2)
+  next-leads i h = let f = found-leads t a placeCount i (aim-at-to (nextWaiting t a) NothingWaits i h) in (f .1, f .2)
 
   by-choice : (b : Side) → e .choice ≡ choiceOf b → aimFor t e (soughtPickup (e .choice)) ≡ aimAt (nextWaiting t b) NothingWaits
   by-choice Position q = rw q

@@ -1,6 +1,5 @@
 -- The picker of a call in state 4 hears once how it came out, and nobody else hears anything: by the four cases of `Stepped`, each from what
 -- one turn sends (`told`, `silent`).
--- Assumes nothing.
 use mathlib.Core.Path.{_≡_, refl, sym, ap, _∙_}
 use mathlib.Core.Bool.{false, true≢false}
 use mathlib.Core.Logic.{_⊎_, inl, inr, ⊎-elim}
@@ -9,15 +8,15 @@ use native.Mathlib.Omega.{arith}
 use lib.ListN.{length}
 use Rattle.laws.proofs.Bools.{equal-or}
 use Rattle.table.specs.declared.Connection.{Connection}
-use Rattle.table.specs.declared.State.{State}
-use Rattle.table.specs.declared.State.the-variants.{Free, ParkWaiting, LineWaiting, Requested, RemoteRequested, HandedOver}
+use Rattle.table.specs.declared.State.the-variants.{Free, RemoteRequested}
 use Rattle.table.specs.declared.Side.{Side}
 use Rattle.table.specs.declared.Side.the-variants.{Position, Line}
 use Rattle.table.specs.declared.Record.{Record}
 use Rattle.table.specs.declared.Table.{Table}
-use Rattle.table.specs.Places.{isFree, sideAt, freeRecord, recordAt}
+use Rattle.table.specs.Places.{isFree, sideAt, freeRecord, recordAt, placeCount}
 use Rattle.table.specs.Ranks.{put}
 use Rattle.table.proofs.Keep.{put-here, put-other}
+use Rattle.table.proofs.States.{state-or}
 use Rattle.events.specs.declared.Event.{Event}
 use Rattle.events.specs.declared.rule.Rule.{Rule}
 use Rattle.events.specs.declared.rule.Rule.the-variants.{On}
@@ -41,14 +40,6 @@ use Rattle.step.proofs.Stepped.{Stepped, kept, begun, ended, went-on, s
 free≢remote : Free ≡ RemoteRequested → ⊥
 free≢remote q = let z : _≡_ {A = ℕ} 0 1 = cc q in omega arith
 
-remote-or-not : (s : State) → (s ≡ RemoteRequested) ⊎ (s ≡ RemoteRequested → ⊥)
-remote-or-not Free = inr free≢remote
-remote-or-not ParkWaiting = inr (λ q. let z : _≡_ {A = ℕ} 0 1 = cc q in omega arith)
-remote-or-not LineWaiting = inr (λ q. let z : _≡_ {A = ℕ} 0 1 = cc q in omega arith)
-remote-or-not Requested = inr (λ q. let z : _≡_ {A = ℕ} 0 1 = cc q in omega arith)
-remote-or-not RemoteRequested = inl refl
-remote-or-not HandedOver = inr (λ q. let z : _≡_ {A = ℕ} 0 1 = cc q in omega arith)
-
 -- a call whose picker waits no longer is in another state
 out-left : (a : Side) (g : Stage) → isOut g ≡ false → stateAt a g ≡ RemoteRequested → ⊥
 out-left Position Waits h q = let z : _≡_ {A = ℕ} 0 1 = cc q in omega arith
@@ -67,12 +58,12 @@ pickrequ-or-quiet c k m nothing = inr refl
 pickrequ-or-quiet c k m parker = inr refl
 pickrequ-or-quiet c k m (picker x) = inl refl
 
-module _ (t : Table) (size : length (t .places) ≡ 96) (e : Event) where
+module _ (t : Table) (size : length (t .places) ≡ placeCount) (e : Event) where
   -- ---- told once
 
   module _ (j : ℕ) (was : recordAt t j .state ≡ RemoteRequested) where
     -- a record that is put elsewhere is not why the call at j leaves its state
-    elsewhere : (i : ℕ) → i < 96 → (new : Record) → (j ≡ i → ⊥) → recordAt (put t i new) j .state ≡ RemoteRequested
+    elsewhere : (i : ℕ) → i < placeCount → (new : Record) → (j ≡ i → ⊥) → recordAt (put t i new) j .state ≡ RemoteRequested
     elsewhere i inside new other = ap (λ (r : Record). r .state) (put-other t size i inside new j other) ∙ was
 
     once : (s : Step) → Stepped t size e s → (recordAt (s .table) j .state ≡ RemoteRequested → ⊥) → RepliesOnce (recordAt t j .connection) (s .answer .first) (s .answer .second)
@@ -90,7 +81,7 @@ module _ (t : Table) (size : length (t .places) ≡ 96) (e : Event) where
   -- ---- and not otherwise
 
   abbrev CauseOf : Step → Type 0
-  CauseOf s = ((j : ℕ) × (j < 96) × Leaves4 t (s .table) j) ⊎ ((s .answer .number ≡ 0 → ⊥) × (ruleOf (e .kind) ≡ On PickRequest))
+  CauseOf s = ((j : ℕ) × (j < placeCount) × Leaves4 t (s .table) j) ⊎ ((s .answer .number ≡ 0 → ⊥) × (ruleOf (e .kind) ≡ On PickRequest))
 
   cause : (s : Step) → Stepped t size e s → (replies (s .answer .first) (s .answer .second) ≡ 0 → ⊥) → CauseOf s
   cause s (kept w) some = ⊎-elim (λ rule. inr (refused-not-0 w, rule)) (λ quiet. absurd (some quiet)) (pickrequ-or-quiet (e .connection) (ruleOf (e .kind)) _ (tells (e .connection) (ruleOf (e .kind)) w))
@@ -104,7 +95,7 @@ module _ (t : Table) (size : length (t .places) ≡ 96) (e : Event) where
           is-not = λ q. free≢remote (sym (ap (λ (r : Record). r .state) (put-here t size i (at .inside) freeRecord)) ∙ q);
         },
       ))
-      (λ other. absurd (some (rw turn at (silent k (sideAt i) (recordAt t i) e other)))) (remote-or-not (recordAt t i .state))
+      (λ other. absurd (some (rw turn at (silent k (sideAt i) (recordAt t i) e other)))) (state-or (recordAt t i .state) RemoteRequested)
   cause s (went-on k i g n m at turn) some =
       ⊎-elim (λ was. inl (
         i,
@@ -116,7 +107,7 @@ module _ (t : Table) (size : length (t .places) ≡ 96) (e : Event) where
               (sym (ap (λ (r : Record). r .state) (put-here t size i (at .inside) (heldRecord (sideAt i) g (recordAt t i .call) n))) ∙ q);
         },
       ))
-      (λ other. absurd (some (rw turn at (silent k (sideAt i) (recordAt t i) e other)))) (remote-or-not (recordAt t i .state))
+      (λ other. absurd (some (rw turn at (silent k (sideAt i) (recordAt t i) e other)))) (state-or (recordAt t i .state) RemoteRequested)
 
 pub picker-told-once : PickerToldOnce
 picker-told-once t e j all left = once t (all .0) e j (left .was) (stepOf t e) (stepped t (all .0) e) (left .is-not)

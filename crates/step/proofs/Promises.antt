@@ -1,5 +1,4 @@
 -- The promises of `specs/Promises.antt`, each by the four cases of `Stepped`.
--- Assumes nothing.
 use mathlib.Core.Path.{_≡_, refl, sym, ap, ap₂, subst, _∙_}
 use mathlib.Core.Bool.{Bool, true, false, cond, not, _&&_, true≢false}
 use mathlib.Core.List.{List}
@@ -17,12 +16,14 @@ use Rattle.table.specs.declared.Record.{Record}
 use Rattle.table.specs.declared.Table.{Table}
 use Rattle.table.specs.declared.Found.{Found}
 use Rattle.table.specs.declared.Found.the-variants.{At, Nothing}
-use Rattle.table.specs.Places.{stateNumber, isFree, sideAt, placeAt, noInvoke, freeRecord, recordAt, rankAt}
+use Rattle.table.specs.Places.{stateNumber, isFree, sideAt, placeAt, noInvoke, freeRecord, recordAt, rankAt, positionCount, placeCount}
 use Rattle.table.specs.Search.{holds, findCall}
 use Rattle.table.specs.Sound.{isSound, fitsSide, Sound}
 use Rattle.table.proofs.Calls.{holds-same, holds-occupied, occupied-holds}
 use Rattle.table.proofs.Searches.{found-passes, none-passes}
-use Rattle.table.proofs.Facts.{facts-of-test, test-of-facts, free-state, free-fits}
+use Rattle.table.proofs.States.{free-state}
+use Rattle.table.proofs.Sides.{side-inside, place-number}
+use Rattle.table.proofs.Facts.{facts-of-test, test-of-facts, free-fits}
 use Rattle.table.proofs.Keep.{put-size, put-here, put-other, put-sound, rank-new, rank-kept, rank-freed, ranks-stay, ranks-drop}
 use Rattle.events.specs.declared.Event.{Event}
 use Rattle.step.specs.declared.Step.{Step}
@@ -51,7 +52,8 @@ use Rattle.events.proofs.Released.{error-in-release}
 use Rattle.events.proofs.Refusals.{refused-not-0}
 use Rattle.step.specs.Step.{refusedBy, done, settled, carriedOut, stepOf}
 use Rattle.step.specs.Promises.{Full, IsAccepted, KeepsSound, RefusalKeeps, Move, starts, rankOf, AtOnePlace, AcceptedAtOnePlace, one-if, T3RunsThrough, namesCall, byName, MatchedByCall, NotHeldIs5, StartAnswersItsCall, onlyNamed, IgnoresOtherFields, ReleaseFrees, RemoteResultHolds}
-use Rattle.step.proofs.Aims.{same-index, aim-on, aim-lost, free-number}
+use Rattle.table.proofs.Sides.{same-index}
+use Rattle.step.proofs.Aims.{aim-on, aim-lost}
 use Rattle.step.proofs.Turns.{stage-fits, waiting-offered, stage-occupied, stage-connection, move-end, move-on, left-held, result-in-4}
 use Rattle.step.proofs.Timers.{t3-started}
 use Rattle.step.proofs.Stepped.{Reached, Stepped, kept, begun, ended, went-on, refused-stays, stepped}
@@ -78,20 +80,20 @@ parks-kind kind =
     first false rest p = p
 
 module _ (t : Table) (all : Full t) (e : Event) where
-  abbrev size : length (t .places) ≡ 96
+  abbrev size : length (t .places) ≡ placeCount
   size = all .0
 
   -- ---- the table after
 
-  full : (s : Step) → Stepped t size e s → length (s .table .places) ≡ 96
+  full : (s : Step) → Stepped t size e s → length (s .table .places) ≡ placeCount
   full s (kept w) = size
   full s (begun d i sound rule room) = put-size t size i (room .inside) _
   full s (ended k i first second at turn) = put-size t size i (at .inside) _
   full s (went-on k i g n m at turn) = put-size t size i (at .inside) _
 
   -- a record of a stage fits, is tidy, and keeps the table sound if nobody else holds its call
-  stage-sound : Sound t → (i : ℕ) → i < 96 → (g : Stage) (call : List ℕ) (n : _)
-      → ((j : ℕ) → j < 96 → (j ≡ i → ⊥) → isFree (recordAt t j .state) ≡ false → call ≡ recordAt t j .call → ⊥)
+  stage-sound : Sound t → (i : ℕ) → i < placeCount → (g : Stage) (call : List ℕ) (n : _)
+      → ((j : ℕ) → j < placeCount → (j ≡ i → ⊥) → isFree (recordAt t j .state) ≡ false → call ≡ recordAt t j .call → ⊥)
       → Sound (put t i (heldRecord (sideAt i) g call n))
   stage-sound s i inside g call n alone =
       put-sound t size i inside (heldRecord (sideAt i) g call n) (all .1) s (stage-fits (sideAt i) g)
@@ -119,7 +121,7 @@ module _ (t : Table) (all : Full t) (e : Event) where
   -- ---- an accepted event
 
   -- a new record at an index, with the call and the move that are said of it
-  one-place : (i : ℕ) (new : Record) (call : List ℕ) (first second : Message) → i < 96 → Move (recordAt t i .state) (new .state)
+  one-place : (i : ℕ) (new : Record) (call : List ℕ) (first second : Message) → i < placeCount → Move (recordAt t i .state) (new .state)
       → (isFree (recordAt t i .state) ≡ false → recordAt t i .call ≡ call) → (isFree (new .state) ≡ false → new .call ≡ call)
       → AtOnePlace t (done t i new call first second)
   one-place i new call first second inside move before after =
@@ -160,27 +162,24 @@ module _ (t : Table) (all : Full t) (e : Event) where
 
   -- ---- T3
 
-  -- the places up to 64 are positions
-  low-side : (i : ℕ) → i < 96 → placeAt i .0 ≤ 64 → sideAt i ≡ Position
-  low-side i inside low =
-      let in-table : ltb i 96 ≡ true = lt-ltb i 96 inside in
-      let here : i + 1 ≤ 64 = rw in-table at low in
-      rw (in-table, le-ltb (i + 1) 1 (omega arith), lt-ltb (i + 1) 65 (omega arith))
+  -- the first places are positions
+  low-side : (i : ℕ) → i < placeCount → placeAt i .0 ≤ positionCount → sideAt i ≡ Position
+  low-side i inside low = side-inside Position i (omega arith) (omega (arith, place-number i inside))
 
   -- what is said of the T3 bits, of a new record at a position
-  t3-bits : (i : ℕ) (new : Record) (call : List ℕ) (first second : Message) → isSound t ≡ true → i < 96 → placeAt i .0 ≤ 64 → fitsSide (sideAt i) (new .state) ≡ true
+  t3-bits : (i : ℕ) (new : Record) (call : List ℕ) (first second : Message) → isSound t ≡ true → i < placeCount → placeAt i .0 ≤ positionCount → fitsSide (sideAt i) (new .state) ≡ true
       → (done t i new call first second .answer .started % 2 ≡ one-if (isFree (recordAt t i .state) && not (isFree (new .state))))
       × (done t i new call first second .answer .stopped % 2 ≡ one-if (isFree (new .state) && not (isFree (recordAt t i .state))))
   t3-bits i new call first second sound inside low fit =
       let position = low-side i inside low in
-      let was : fitsSide Position (recordAt t i .state) ≡ true = rw position at (facts-of-test t size sound .fits i inside) in
+      let was : fitsSide Position (recordAt t i .state) ≡ true = rw position at (facts-of-test t sound .fits i inside) in
       let is : fitsSide Position (new .state) ≡ true = rw position at fit in
       rw position (t3-started (recordAt t i .state) (new .state) was is, t3-started (new .state) (recordAt t i .state) is was)
 
   abbrev T3 : Step → Type 0
   T3 s = (s .answer .started % 2 ≡ one-if (eqb (e .kind) 1)) × (s .answer .stopped % 2 ≡ one-if (eqb (s .answer .state) 0))
 
-  t3 : (s : Step) → Stepped t size e s → s .answer .number ≡ 0 → s .answer .place .0 ≤ 64 → T3 s
+  t3 : (s : Step) → Stepped t size e s → s .answer .number ≡ 0 → s .answer .place .0 ≤ positionCount → T3 s
   t3 s (kept w) h low = absurd (refused-not-0 w h)
   t3 s (begun d i sound rule room) h low =
       let new : Record = heldRecord (sideAt i) Waits (e .call) noInvoke in
@@ -188,8 +187,7 @@ module _ (t : Table) (all : Full t) (e : Event) where
       let busy = stage-occupied (sideAt i) Waits in
       let side : d ≡ Position = sym (room .side) ∙ low-side i (room .inside) low in
       let kind : eqb (e .kind) 1 ≡ true = sym (parks-kind (e .kind)) ∙ rw (rule, side) in
-      let zero : eqb (stateNumber (new .state)) 0 ≡ false = sym (free-number (new .state)) ∙ busy in
-      (b .0 ∙ rw (room .vacant, busy, kind), b .1 ∙ rw (busy, zero))
+      (b .0 ∙ rw (room .vacant, busy, kind), b .1 ∙ rw busy)
   t3 s (ended k i first second at turn) h low =
       let b = t3-bits i freeRecord (recordAt t i .call) first second (at .sound) (at .inside) low (free-fits (sideAt i)) in
       let kind : eqb (e .kind) 1 ≡ false = sym (parks-kind (e .kind)) ∙ rw (at .rule) in
@@ -199,8 +197,7 @@ module _ (t : Table) (all : Full t) (e : Event) where
       let b = t3-bits i new (recordAt t i .call) m NoMessage (at .sound) (at .inside) low (stage-fits (sideAt i) g) in
       let busy = stage-occupied (sideAt i) g in
       let kind : eqb (e .kind) 1 ≡ false = sym (parks-kind (e .kind)) ∙ rw (at .rule) in
-      let zero : eqb (stateNumber (new .state)) 0 ≡ false = sym (free-number (new .state)) ∙ busy in
-      (b .0 ∙ rw (at .occupied, kind), b .1 ∙ rw (busy, zero))
+      (b .0 ∙ rw (at .occupied, kind), b .1 ∙ rw busy)
 
   -- ---- matching
 
@@ -229,7 +226,7 @@ module _ (t : Table) (all : Full t) (e : Event) where
   own-call d start s (ended k i first second at turn) h = absurd (let z : _≡_ {A = ℕ} 0 1 = cc (sym start ∙ at .rule) in omega arith)
   own-call d start s (went-on k i g n m at turn) h = absurd (let z : _≡_ {A = ℕ} 0 1 = cc (sym start ∙ at .rule) in omega arith)
 
-  lost-is-5 : byName e ≡ true → ((j : ℕ) → j < 96 → holds (e .call) (recordAt t j) ≡ false) → isSound t ≡ true → stepOf t e .answer .number ≡ 5
+  lost-is-5 : byName e ≡ true → ((j : ℕ) → j < placeCount → holds (e .call) (recordAt t j) ≡ false) → isSound t ≡ true → stepOf t e .answer .number ≡ 5
   lost-is-5 named gone sound = rw sound (by (ruleOf (e .kind)) named)
     where
       by : (k : Rule) → namesCall k e ≡ true → carriedOut k t e (aim k t e) .answer .number ≡ 5
@@ -239,7 +236,7 @@ module _ (t : Table) (all : Full t) (e : Event) where
 
   -- ---- the two slips
 
-  module _ (sound : isSound t ≡ true) (j : ℕ) (inside : j < 96) (held : holds (e .call) (recordAt t j) ≡ true) where
+  module _ (sound : isSound t ≡ true) (j : ℕ) (inside : j < placeCount) (held : holds (e .call) (recordAt t j) ≡ true) where
     -- a signal on a held call does its turn at the place that holds it
     pub on-held : (k : Signal) → ruleOf (e .kind) ≡ On k → aim (On k) t e ≡ aimNamed t e → (P : Step → Type 0)
         → P (settled t e j (recordAt t j .call) (turnOn k (sideAt j) (recordAt t j) e)) → P (stepOf t e)
@@ -250,7 +247,7 @@ module _ (t : Table) (all : Full t) (e : Event) where
             let h = found-passes t size (λ n. holds (e .call)) i q in
             let busy = holds-occupied (e .call) (recordAt t j) held in
             let call : recordAt t i .call ≡ recordAt t j .call = holds-same (e .call) (recordAt t i) (h .1) ∙ sym (holds-same (e .call) (recordAt t j) held) in
-            let same : i ≡ j = facts-of-test t size sound .one-place i j (h .0) inside (holds-occupied (e .call) (recordAt t i) (h .1)) busy call in
+            let same : i ≡ j = facts-of-test t sound .one-place i j (h .0) inside (holds-occupied (e .call) (recordAt t i) (h .1)) busy call in
             let done-there : turn (On k) (sideAt j) (recordAt t j) e ≡ turnOn k (sideAt j) (recordAt t j) e = rw busy in
             rw same (subst (λ u. P (settled t e j (recordAt t j .call) u)) (sym done-there) turned)
         by Nothing q = absurd (not-both held (none-passes t size (λ n. holds (e .call)) q j inside))
@@ -296,8 +293,8 @@ module _ (t : Table) (all : Full t) (e : Event) where
 
 pub keeps-sound : KeepsSound
 keeps-sound t e all sound =
-    test-of-facts (stepOf t e .table) (full t all e (stepOf t e) (stepped t (all .0) e))
-    (sound-after t all e (stepOf t e) (stepped t (all .0) e) (facts-of-test t (all .0) sound))
+    test-of-facts (stepOf t e .table)
+    (sound-after t all e (stepOf t e) (stepped t (all .0) e) (facts-of-test t sound))
 
 pub refusal-keeps : RefusalKeeps
 refusal-keeps t e all refused = table-kept t all e (stepOf t e) (stepped t (all .0) e) refused

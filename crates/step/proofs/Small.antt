@@ -1,5 +1,4 @@
 -- How large the numbers of an answer can be: each of its fields comes from a small enumeration, or from the timer table.
--- Assumes nothing.
 use mathlib.Core.Path.{_≡_, refl}
 use mathlib.Core.Bool.{Bool, true, false, cond}
 use mathlib.Core.List.{List}
@@ -11,9 +10,10 @@ use Rattle.table.specs.declared.State.{State}
 use Rattle.table.specs.declared.Side.{Side}
 use Rattle.table.specs.declared.Record.{Record}
 use Rattle.table.specs.declared.Table.{Table}
-use Rattle.table.specs.Places.{noPlace, placeAt, sideAt, noInvoke, freeRecord, recordAt}
+use Rattle.table.specs.Places.{noPlace, placeAt, sideAt, noInvoke, freeRecord, recordAt, placeCount}
 use Rattle.table.specs.Timers.{startedSet}
-use Rattle.table.proofs.Laws.{state-below, timer-below}
+use Rattle.table.proofs.States.{state-below}
+use Rattle.table.proofs.Laws.{timer-below}
 use Rattle.step.specs.declared.Step.{Step}
 use Rattle.events.specs.declared.message.Message.{Message}
 use Rattle.events.specs.declared.message.Message.the-variants.{NoMessage, ParkResult, ParkError, Connect, Facility, PickResult, PickError, ReleaseComplete}
@@ -53,11 +53,11 @@ error-below ReleaseComplete = lit≤ tt
 started-below : (a : Side) (s u : State) → startedSet a s u ≤ 7
 started-below a s u = omega (arith, timer-below a u)
 
-place-below : (i : ℕ) → placeAt i .0 ≤ 96
-place-below i = by (ltb i 96) refl
+place-below : (i : ℕ) → placeAt i .0 ≤ placeCount
+place-below i = by (ltb i placeCount) refl
   where
-    by : (b : Bool) → ltb i 96 ≡ b → cond b (record { 0 = i + 1 }) noPlace .0 ≤ 96
-    by true h = omega (arith, ltb-true i 96 h)
+    by : (b : Bool) → ltb i placeCount ≡ b → cond b (record { 0 = i + 1 }) noPlace .0 ≤ placeCount
+    by true h = omega (arith, ltb-true i placeCount h)
     by false h = lit≤ tt
 
 sent-small : (m : Message) → SmallSent (sent m)

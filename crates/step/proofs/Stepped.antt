@@ -1,6 +1,5 @@
 -- Every step, seen as what it is: a refusal that keeps the table, a new stay at a free place, the end of a stay, or a stay that
 -- goes on. All that is promised of a step goes by these four cases.
--- Assumes nothing.
 use mathlib.Core.Path.{_≡_, refl, sym, subst}
 use mathlib.Core.Bool.{Bool, true, false, cond}
 use mathlib.Core.List.{List}
@@ -10,7 +9,7 @@ use lib.ListN.{length}
 use Rattle.table.specs.declared.Invoke.{Invoke}
 use Rattle.table.specs.declared.Side.{Side}
 use Rattle.table.specs.declared.Table.{Table}
-use Rattle.table.specs.Places.{isFree, sideAt, noInvoke, freeRecord, recordAt}
+use Rattle.table.specs.Places.{isFree, sideAt, noInvoke, freeRecord, recordAt, placeCount}
 use Rattle.table.specs.Sound.{isSound}
 use Rattle.events.specs.declared.Event.{Event}
 use Rattle.step.specs.declared.Step.{Step}
@@ -40,11 +39,11 @@ use Rattle.step.proofs.Aims.{Room, aim-new, aim-on}
 pub record Reached (t : Table) (e : Event) (s : Signal) (i : ℕ) : Type 0 where
   pub sound : isSound t ≡ true
   pub rule : ruleOf (e .kind) ≡ On s
-  pub inside : i < 96
+  pub inside : i < placeCount
   pub occupied : isFree (recordAt t i .state) ≡ false
   pub aimed : aim (On s) t e ≡ To i
 
-pub data Stepped (t : Table) (size : length (t .places) ≡ 96) (e : Event) : Step → Type 0 where
+pub data Stepped (t : Table) (size : length (t .places) ≡ placeCount) (e : Event) : Step → Type 0 where
   kept : (w : Refusal) → Stepped t size e (refusedBy t e w)
   begun : (d : Side) (i : ℕ) → isSound t ≡ true → ruleOf (e .kind) ≡ Start d → Room t size d (e .call) i
       → Stepped t size e (done t i (heldRecord (sideAt i) Waits (e .call) noInvoke) (e .call) (greeting d) NoMessage)
@@ -63,7 +62,7 @@ settled-number t e i call (Becomes g n m) = refl
 pub refused-stays : (t : Table) (e : Event) (i : ℕ) (call : List ℕ) (w : Refusal) → refusedBy t e w ≡ settled t e i call (Refused w)
 refused-stays t e i call w j = record { table = sym (put-same t i) j; answer = declined e w }
 
-module _ (t : Table) (size : length (t .places) ≡ 96) (e : Event) where
+module _ (t : Table) (size : length (t .places) ≡ placeCount) (e : Event) where
   module _ (s : Signal) (i : ℕ) (reached : isFree (recordAt t i .state) ≡ false → Reached t e s i) where
     stays : (w : Refusal) → Stepped t size e (settled t e i (recordAt t i .call) (Refused w))
     stays w = subst (Stepped t size e) (refused-stays t e i (recordAt t i .call) w) (kept w)

@@ -1,6 +1,5 @@
 -- A call that is taken: a pickup that names it does its turn at the place that holds it, and the turn goes by the state (`pickup-numbered`). On the
 -- wire the refusals are alike (`taken-alike`), and an answer is no more than its refusal.
--- Assumes nothing.
 use mathlib.Core.Path.{_≡_, refl, ap, _∙_}
 use mathlib.Core.Bool.{true}
 use mathlib.Core.Logic.{⊎-elim}

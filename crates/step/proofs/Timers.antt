@@ -1,6 +1,5 @@
 -- T3 at a park position: it is in the set of every occupied state that a position can have, so it starts and stops with the stay.
 -- The rule is a test that is computed at all pairs of states, once.
--- Assumes nothing.
 use mathlib.Core.Path.{_≡_, refl}
 use mathlib.Core.Bool.{Bool, true, not, _&&_, _||_}
 use Prim.Native.Nat.{_%_}

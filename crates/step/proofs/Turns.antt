@@ -1,5 +1,4 @@
 -- One record: what the record of a stage is like, that a turn which goes on is one of the five moves, and what a result does in state 4.
--- Assumes nothing.
 use mathlib.Core.Path.{_≡_, refl, sym, ap, _∙_}
 use mathlib.Core.Bool.{Bool, true, false, true≢false}
 use mathlib.Core.Logic.{_⊎_, inl, inr}

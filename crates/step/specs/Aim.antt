@@ -1,14 +1,12 @@
 -- Which place an event is for (document 01, "Events" and refusals 1 to 6). Matching is by call, and by nothing else.
--- Assumes nothing.
 use mathlib.Core.Bool.{Bool, cond, _&&_}
-use Prim.Native.Nat.{ℕ, zero, suc}
 use Rattle.table.specs.declared.Place.{Place}
 use Rattle.table.specs.declared.State.the-variants.{Free}
 use Rattle.table.specs.declared.Side.{Side}
 use Rattle.table.specs.declared.Table.{Table}
 use Rattle.table.specs.declared.Found.{Found}
 use Rattle.table.specs.declared.Found.the-variants.{At, Nothing}
-use Rattle.table.specs.Places.{isFree, isOf, sideOf, recordAt}
+use Rattle.table.specs.Places.{isFree, isOf, sideOf, indexOf, recordAt}
 use Rattle.table.specs.Search.{findCall, lowestIn}
 use Rattle.table.specs.Ranks.{nextWaiting}
 use Rattle.events.specs.declared.Event.{Event}
@@ -25,11 +23,6 @@ use Rattle.step.specs.declared.aim.Aim.the-variants.{To, Nowhere}
 abbrev pub aimAt : Found → Refusal → Aim
 aimAt (At i) w = To i
 aimAt Nothing w = Nowhere w
-
--- the index of a place
-abbrev pub indexOf : ℕ → ℕ
-indexOf zero = 0
-indexOf (suc n) = n
 
 -- "A proposed free position 1 to 64 is honoured"; "kind 2: with lines 65 to 96"
 abbrev pub isProposed : Table → Side → Place → Bool

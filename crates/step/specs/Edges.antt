@@ -1,6 +1,5 @@
 -- The twelve edges (document 01, "Twelve edges to prove") and, after them, those of document 02's Q-1, Q-3 and Q-4: each from the table that it
 -- names, with the whole answer and the whole table after it, as one list under one statement. `proofs/Edges.antt` computes them from the definitions.
--- Assumes nothing.
 use mathlib.Core.Path.{_≡_}
 use mathlib.Core.List.{List, [], _∷_, _++_}
 use Prim.Native.Nat.{ℕ, zero, suc}
@@ -9,11 +8,10 @@ use Rattle.table.specs.declared.Record.{Record}
 use Rattle.table.specs.declared.Table.{Table}
 use Rattle.table.specs.declared.State.{State}
 use Rattle.table.specs.declared.State.the-variants.{ParkWaiting, LineWaiting, Requested, RemoteRequested, HandedOver}
-use Rattle.table.specs.Places.{noPlace, noConnection, noInvoke, noCall, freeRecord, emptyTable}
+use Rattle.table.specs.Places.{noPlace, noConnection, noInvoke, noCall, freeRecord, emptyTable, indexOf}
 use Rattle.events.specs.declared.Event.{Event}
 use Rattle.events.specs.declared.Answer.{Answer}
 use Rattle.events.specs.declared.message.Sent.{Sent}
-use Rattle.step.specs.Aim.{indexOf}
 use Rattle.step.specs.Step.{stepOf}
 
 -- the call whose last octet is n

@@ -1,6 +1,5 @@
 -- What is promised of every event at every table, over the machine's definition: one page of statements. Each is proved under the name
 -- that stands beside it here, in `proofs/`: Promises, Pickers (Q-1), Taken (Q-3), First (Q-4) and Small.
--- Assumes nothing.
 use mathlib.Core.Path.{_≡_}
 use mathlib.Core.Logic.{_⊎_}
 use mathlib.Core.List.{List}
@@ -16,7 +15,7 @@ use Rattle.table.specs.declared.State.the-variants.{Free, ParkWaiting, LineWait
 use Rattle.table.specs.declared.Side.{Side}
 use Rattle.table.specs.declared.Side.the-variants.{Position, Line}
 use Rattle.table.specs.declared.Table.{Table}
-use Rattle.table.specs.Places.{stateNumber, isFree, waitingOn, placeAt, sideAt, noPlace, noConnection, noInvoke, noCall, recordAt, rankAt}
+use Rattle.table.specs.Places.{stateNumber, isFree, waitingOn, placeAt, sideAt, noPlace, noConnection, noInvoke, noCall, recordAt, rankAt, positionCount, placeCount}
 use Rattle.table.specs.Timers.{startedSet, stoppedSet}
 use Rattle.table.specs.Search.{holds, isAt}
 use Rattle.table.specs.Ranks.{callsOn, lowered}
@@ -39,7 +38,7 @@ use Rattle.step.specs.Step.{stepOf}
 
 -- a table has 96 places, each with a record and a rank; of a table in code its type says so
 abbrev pub Full : Table → Type 0
-Full t = (length (t .places) ≡ 96) × (length (t .ranks) ≡ 96)
+Full t = (length (t .places) ≡ placeCount) × (length (t .ranks) ≡ placeCount)
 
 -- the event is done; any other number is a refusal
 abbrev pub IsAccepted : Table → Event → Type 0
@@ -82,12 +81,12 @@ rankOf false false n rank = rank
 -- all that an accepted event does is at one place, but for ranks: from table t the step s
 pub record AtOnePlace (t : Table) (s : Step) : Type 0 where
   pub index : ℕ
-  pub inside : index < 96
+  pub inside : index < placeCount
   pub place : s .answer .place ≡ placeAt index
   -- the other places change in their rank alone, and only when the place is freed: "higher ranks on that side drop by one" (document 02, Q-4)
   pub others : (j : ℕ) → (j ≡ index → ⊥) → recordAt (s .table) j ≡ recordAt t j
   pub ranks-stay : isFree (recordAt (s .table) index .state) ≡ false → (j : ℕ) → (j ≡ index → ⊥) → rankAt (s .table) j ≡ rankAt t j
-  pub ranks-drop : isFree (recordAt (s .table) index .state) ≡ true → (j : ℕ) → j < 96 → (j ≡ index → ⊥)
+  pub ranks-drop : isFree (recordAt (s .table) index .state) ≡ true → (j : ℕ) → j < placeCount → (j ≡ index → ⊥)
       → rankAt (s .table) j ≡ lowered (sideAt index) (rankAt t index) j (rankAt t j)
   -- a call that comes is the last of its side, keeps its rank as long as it is held, and leaves none behind
   pub rank : rankAt (s .table) index ≡ rankOf (isFree (recordAt t index .state)) (isFree (recordAt (s .table) index .state)) (callsOn t (sideAt index)) (rankAt t index)
@@ -113,7 +112,7 @@ one-if b = cond b 1 0
 -- `t3-runs-through`: at a park position T3 is started by the park and by nothing else, and is stopped where the place is freed and
 -- nowhere else: not by a pickup request, nor does its refusal start it again
 abbrev pub T3RunsThrough : Type 0
-T3RunsThrough = (t : Table) (e : Event) → Full t → IsAccepted t e → stepOf t e .answer .place .0 ≤ 64
+T3RunsThrough = (t : Table) (e : Event) → Full t → IsAccepted t e → stepOf t e .answer .place .0 ≤ positionCount
     → (stepOf t e .answer .started % 2 ≡ one-if (eqb (e .kind) 1)) × (stepOf t e .answer .stopped % 2 ≡ one-if (eqb (stepOf t e .answer .state) 0))
 
 -- ---- matching
@@ -142,7 +141,7 @@ MatchedByCall = (t : Table) (e : Event) → Full t → IsAccepted t e → byName
 -- `not-held-is-5`: a call that is in no place is refused by 5, whatever stands anywhere
 abbrev pub NotHeldIs5 : Type 0
 NotHeldIs5 = (t : Table) (e : Event) → Full t → isSound t ≡ true → byName e ≡ true
-    → ((j : ℕ) → j < 96 → holds (e .call) (recordAt t j) ≡ false) → stepOf t e .answer .number ≡ 5
+    → ((j : ℕ) → j < placeCount → holds (e .call) (recordAt t j) ≡ false) → stepOf t e .answer .number ≡ 5
 
 -- `start-answers-its-call`: a park or an alert is answered with the call that it brings
 abbrev pub StartAnswersItsCall : Type 0
@@ -183,7 +182,7 @@ IgnoresOtherFields = (t : Table) (e : Event) → stepOf t (onlyNamed (ruleOf (e 
 -- `release-frees`: a RELEASE COMPLETE for a held call frees its place, whatever number the error inside it carries
 abbrev pub ReleaseFrees : Type 0
 ReleaseFrees = (t : Table) (e : Event) → Full t → isSound t ≡ true → (e .kind ≡ 7) ⊎ (e .kind ≡ 8)
-    → (j : ℕ) → j < 96 → holds (e .call) (recordAt t j) ≡ true → IsAccepted t e × (stepOf t e .answer .state ≡ 0)
+    → (j : ℕ) → j < placeCount → holds (e .call) (recordAt t j) ≡ true → IsAccepted t e × (stepOf t e .answer .state ≡ 0)
 
 -- `remote-result-holds`: an accepted result in state 4 does not free the place: it goes to state 5, and the picker's own connection
 -- is told
@@ -206,7 +205,7 @@ PickerToldOnce = (t : Table) (e : Event) (j : ℕ) → Full t → Leaves4 t (ste
 
 -- why a message 5 or 6 goes out: a call leaves state 4, or a pickrequ is refused
 pub data Cause (t : Table) (e : Event) : Type 0 where
-  leaves : (j : ℕ) → j < 96 → Leaves4 t (stepOf t e .table) j → Cause t e
+  leaves : (j : ℕ) → j < placeCount → Leaves4 t (stepOf t e .table) j → Cause t e
   refused : (IsAccepted t e → ⊥) → ruleOf (e .kind) ≡ On PickRequest → Cause t e
 
 -- `replies-have-cause`: none goes out otherwise
@@ -218,7 +217,7 @@ RepliesHaveCause = (t : Table) (e : Event) → Full t → (replies (stepOf t e .
 -- `tells-why`: a local pickup and a pickrequ that name a held call have the number of its state
 abbrev pub TellsWhy : Type 0
 TellsWhy = (t : Table) (e : Event) → Full t → isSound t ≡ true → (e .kind ≡ 3) ⊎ (e .kind ≡ 4) → e .choice ≡ 0
-    → (j : ℕ) → j < 96 → holds (e .call) (recordAt t j) ≡ true → stepOf t e .answer .number ≡ pickupNumber (recordAt t j .state)
+    → (j : ℕ) → j < placeCount → holds (e .call) (recordAt t j) ≡ true → stepOf t e .answer .number ≡ pickupNumber (recordAt t j .state)
 
 -- `taken-answer`: where one of the three refuses a pickrequ, it has message 6, its connection and error 2, and zeros everywhere else but its number
 abbrev pub TakenAnswer : Type 0
@@ -239,7 +238,7 @@ Waits t a i = isAt a (waitingOn a) i (recordAt t i) ≡ true
 -- `takes-first`: with choice 1 or 2 an accepted pickup is for a call that waits on that side, and none that waits there has a lower rank
 abbrev pub TakesFirst : Type 0
 TakesFirst = (t : Table) (e : Event) (a : Side) → Full t → IsAccepted t e → (e .kind ≡ 3) ⊎ (e .kind ≡ 4) → e .choice ≡ choiceOf a
-    → (x : AtOnePlace t (stepOf t e)) → Waits t a (x .index) × ((j : ℕ) → j < 96 → Waits t a j → rankAt t (x .index) ≤ rankAt t j)
+    → (x : AtOnePlace t (stepOf t e)) → Waits t a (x .index) × ((j : ℕ) → j < placeCount → Waits t a j → rankAt t (x .index) ≤ rankAt t j)
 
 -- ---- how large an answer's numbers are
 
@@ -249,7 +248,7 @@ pub record SmallSent (x : Sent) : Type 0 where
 
 pub record Small (a : Answer) : Type 0 where
   pub number : a .number ≤ 25
-  pub place : a .place .0 ≤ 96
+  pub place : a .place .0 ≤ placeCount
   pub state : a .state ≤ 5
   pub first : SmallSent (a .first)
   pub started : a .started ≤ 7

@@ -1,5 +1,4 @@
 -- THE MACHINE: one event at a table, its answer and the table after it (document 01, "Events" and "Refusal numbers"; document 02).
--- Assumes nothing.
 use mathlib.Core.Bool.{cond}
 use mathlib.Core.List.{List}
 use Prim.Native.Nat.{ℕ}

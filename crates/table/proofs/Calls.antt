@@ -1,5 +1,4 @@
 -- Two calls are the same by the test exactly where they are equal; what it is to hold a call.
--- Assumes nothing.
 use mathlib.Core.Path.{_≡_, refl, ap₂}
 use mathlib.Core.Bool.{true, false, not}
 use mathlib.Core.List.{List, [], _∷_}

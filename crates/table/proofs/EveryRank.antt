@@ -1,6 +1,5 @@
 -- The ranks of a side with n calls are exactly 1 to n: they are from 1 to n and differ, so none of the n numbers is missing. Of the ranks up to m
 -- there are at most m, and fewer where one is missing; of those up to n there are n.
--- Assumes nothing.
 use mathlib.Core.Path.{_≡_, refl, sym, ap, _∙_}
 use mathlib.Core.Bool.{Bool, true, false, cond, not, _&&_}
 use mathlib.Core.List.{List, [], _∷_}
@@ -14,11 +13,13 @@ use Rattle.laws.proofs.Bools.{never, and-left, and-right}
 use Rattle.table.specs.declared.Side.{Side}
 use Rattle.table.specs.declared.Record.{Record}
 use Rattle.table.specs.declared.Table.{Table}
-use Rattle.table.specs.Places.{isFree, sameSide, sideAt, blank, recordAt, rankAt}
-use Rattle.table.specs.Search.{below, total}
+use Rattle.table.specs.Places.{isFree, sameSide, sideAt, blank, recordAt, rankAt, placeCount}
+use Rattle.laws.specs.Lists.{below}
+use Rattle.table.specs.Search.{total}
 use Rattle.table.specs.Ranks.{heldOn, callsOn}
 use Rattle.table.specs.Sound.{Sound, EveryRank}
-use Rattle.table.proofs.RankLaws.{below-get, side-is}
+use Rattle.table.proofs.Sides.{side-is}
+use Rattle.laws.proofs.Lists.{below-get}
 use Rattle.table.proofs.Facts.{facts-of-test}
 
 -- ---- sums of one for each index that passes a test
@@ -86,7 +87,7 @@ below-fails p (suc n) e = by (p n) refl e (below-fails p n)
     by false q h rec = (n, omega arith, q)
     by true q h rec = let w = rec h in (w .0, omega (arith, w .1), w .2)
 
-module _ (t : Table) (size : length (t .places) ≡ 96) (S : Sound t) (a : Side) where
+module _ (t : Table) (size : length (t .places) ≡ placeCount) (S : Sound t) (a : Side) where
   abbrev on : ℕ → Bool
   on j = sameSide (sideAt j) a
 
@@ -136,7 +137,7 @@ module _ (t : Table) (size : length (t .places) ≡ 96) (S : Sound t) (a : Side)
           by true false q true r = absurd (eqb-false (rankAt t j) 0 q (omega (arith, leb-true (rankAt t j) 0 r)))
   few (suc m) = omega (arith, few m, many-split (upTo (suc m)) (upTo m) (is (suc m)) (step m) 0 (t .places), alone (suc m) (λ z. absurd (omega (arith, z))))
 
-  module _ (k : ℕ) (missing : (j : ℕ) → j < 96 → is (suc k) j ≡ false) where
+  module _ (k : ℕ) (missing : (j : ℕ) → j < placeCount → is (suc k) j ≡ false) where
     fewer : (d : ℕ) → many (upTo (suc k + d)) 0 (t .places) < suc k + d
     fewer zero =
         let at : suc k + 0 ≡ suc k = omega arith in
@@ -150,7 +151,7 @@ module _ (t : Table) (size : length (t .places) ≡ 96) (S : Sound t) (a : Side)
   all-ranked : callsOn t a ≤ many (upTo (callsOn t a)) 0 (t .places)
   all-ranked = total-le (heldOn a) (λ j r. one (upTo (callsOn t a) j)) 0 (t .places) (λ i h. rw (zero-add i) (here i (omega (arith, h, size))))
     where
-      here : (i : ℕ) → i < 96 → heldOn a i (recordAt t i) ≤ one (upTo (callsOn t a) i)
+      here : (i : ℕ) → i < placeCount → heldOn a i (recordAt t i) ≤ one (upTo (callsOn t a) i)
       here i h = by (on i) refl (isFree (recordAt t i .state)) refl
         where
           by : (x : Bool) → on i ≡ x → (f : Bool) → isFree (recordAt t i .state) ≡ f → one (x && not f) ≤ one (x && (not (eqb (rankAt t i) 0) && leb (rankAt t i) (callsOn t a)))
@@ -162,24 +163,24 @@ module _ (t : Table) (size : length (t .places) ≡ 96) (S : Sound t) (a : Side)
               let low : leb (rankAt t i) (callsOn t a) ≡ true = le-leb (rankAt t i) (callsOn t a) (rw side at (S .rank-to-n i h)) in
               rw (nonzero, low) (omega arith)
 
-  there : (k : ℕ) → suc k ≤ callsOn t a → (i : ℕ) × (i < 96) × (sideAt i ≡ a) × (rankAt t i ≡ suc k)
-  there k h = by (below (λ j. not (is (suc k) j)) 96) refl
+  there : (k : ℕ) → suc k ≤ callsOn t a → (i : ℕ) × (i < placeCount) × (sideAt i ≡ a) × (rankAt t i ≡ suc k)
+  there k h = by (below (λ j. not (is (suc k) j)) placeCount) refl
     where
-      by : (b : Bool) → below (λ j. not (is (suc k) j)) 96 ≡ b → (i : ℕ) × (i < 96) × (sideAt i ≡ a) × (rankAt t i ≡ suc k)
+      by : (b : Bool) → below (λ j. not (is (suc k) j)) placeCount ≡ b → (i : ℕ) × (i < placeCount) × (sideAt i ≡ a) × (rankAt t i ≡ suc k)
       by true q =
-          let none : (j : ℕ) → j < 96 → is (suc k) j ≡ false = λ j hj. not-true (is (suc k) j) (below-get (λ j. not (is (suc k) j)) 96 q j hj) in
+          let none : (j : ℕ) → j < placeCount → is (suc k) j ≡ false = λ j hj. not-true (is (suc k) j) (below-get (λ j. not (is (suc k) j)) placeCount q j hj) in
           let d = callsOn t a - suc k in
           let at : suc k + d ≡ callsOn t a = omega arith in
           let short : many (upTo (callsOn t a)) 0 (t .places) < callsOn t a = rw at at (fewer k none d) in
           absurd (omega (arith, short, all-ranked))
       by false q =
-          let w = below-fails (λ j. not (is (suc k) j)) 96 q in
+          let w = below-fails (λ j. not (is (suc k) j)) placeCount q in
           let yes-there : is (suc k) (w .0) ≡ true = not-false (is (suc k) (w .0)) (w .2) in
           (w .0, w .1, side-is (sideAt (w .0)) a (and-left (on (w .0)) _ yes-there), eqb-true (rankAt t (w .0)) (suc k) (and-right (on (w .0)) _ yes-there))
 
 pub every-rank : EveryRank
 every-rank t a k size sound from to = by k from to
   where
-    by : (k : ℕ) → 1 ≤ k → k ≤ callsOn t a → (i : ℕ) × (i < 96) × (sideAt i ≡ a) × (rankAt t i ≡ k)
+    by : (k : ℕ) → 1 ≤ k → k ≤ callsOn t a → (i : ℕ) × (i < placeCount) × (sideAt i ≡ a) × (rankAt t i ≡ k)
     by zero from to = absurd (omega arith)
-    by (suc k) from to = there t size (facts-of-test t size sound) a k to
+    by (suc k) from to = there t size (facts-of-test t sound) a k to

@@ -1,6 +1,5 @@
--- Soundness twice: the test that the code runs (`isSound`) says exactly the facts of document 01 and of Q-4 (`Sound`). What `every` and `below`
--- say is turned into what they say of each index, and each test into its fact.
--- Assumes nothing.
+-- Soundness twice: the test that the code runs (`isSound`) says exactly the facts of document 01 and of Q-4 (`Sound`). What `below` says is turned
+-- into what it says of each index, and each test into its fact.
 use mathlib.Core.Path.{_≡_, refl, sym, ap, _∙_}
 use mathlib.Core.Bool.{Bool, true, false, not}
 use mathlib.Core.List.{List, [], _∷_}
@@ -12,36 +11,22 @@ use lib.Dec.{eqb}
 use borrow.Author.Tests.{eqb-true, eq-eqb, leb-true, le-leb, not-true}
 use lib.ListN.{length, drop, getD, length-drop}
 use lib.Seq.{getD-drop}
-use Rattle.laws.proofs.Bools.{never, and-left, and-right, and-both, not-both, less-or}
+use Rattle.laws.specs.Lists.{below}
+use Rattle.laws.proofs.Bools.{and-left, and-right, and-both, not-both, less-or}
+use Rattle.laws.proofs.Lists.{below-get, below-make}
 use Rattle.table.specs.declared.State.{State}
 use Rattle.table.specs.declared.State.the-variants.{Free, ParkWaiting, LineWaiting, Requested, RemoteRequested, HandedOver}
 use Rattle.table.specs.declared.Side.{Side}
 use Rattle.table.specs.declared.Side.the-variants.{Position, Line}
 use Rattle.table.specs.declared.Record.{Record}
 use Rattle.table.specs.declared.Table.{Table}
-use Rattle.table.specs.Places.{stateNumber, isFree, sideAt, noCall, noConnection, freeRecord, emptyTable, blank, recordAt, rankAt}
-use Rattle.table.specs.Search.{sameCall, holds, every, below}
+use Rattle.table.specs.Places.{stateNumber, isFree, sideAt, noCall, noConnection, freeRecord, emptyTable, blank, recordAt, rankAt, placeCount}
+use Rattle.table.specs.Search.{sameCall, holds}
 use Rattle.table.specs.Ranks.{callsOn, rankIn, rankFits, ranksDiffer, rankSound, isRanked}
-use Rattle.table.specs.Sound.{fitsSide, allZeros, tidyIn, clash, unlike, placeSound, apartFromLater, recordsSound, isSound, Sound}
-use Rattle.table.proofs.RankLaws.{below-get, below-make, alike, differ}
+use Rattle.table.specs.Sound.{fitsSide, allZeros, tidyIn, clash, recordFits, callsDiffer, recordSound, recordsSound, isSound, Sound}
+use Rattle.table.proofs.States.{free-state}
+use Rattle.table.proofs.RankLaws.{alike, differ}
 use Rattle.table.proofs.Calls.{same-is, holds-occupied, holds-same, occupied-holds}
-
--- ---- every record of a list, by its index
-
-pub every-get : (p : ℕ → Record → List Record → Bool) (i : ℕ) (l : List Record) → every p i l ≡ true
-    → (k : ℕ) → k < length l → p (i + k) (getD l k blank) (drop (suc k) l) ≡ true
-every-get p i [] e k h = absurd (not-suc-le-zero h)
-every-get p i (r ∷ rs) e zero h = rw (add-zero i) (and-left (p i r rs) (every p (i + 1) rs) e)
-every-get p i (r ∷ rs) e (suc k) h =
-    let at : i + 1 + k ≡ i + suc k = omega arith in
-    rw at at (every-get p (i + 1) rs (and-right (p i r rs) (every p (i + 1) rs) e) k (le-of-suc-le-suc h))
-
-pub every-make : (p : ℕ → Record → List Record → Bool) (i : ℕ) (l : List Record)
-    → ((k : ℕ) → k < length l → p (i + k) (getD l k blank) (drop (suc k) l) ≡ true) → every p i l ≡ true
-every-make p i [] f = refl
-every-make p i (r ∷ rs) f =
-    and-both (rw (add-zero i) at (f 0 (omega arith)))
-    (every-make p (i + 1) rs (λ k h. let at : i + 1 + k ≡ i + suc k = omega arith in rw at (f (suc k) (omega arith))))
 
 -- ---- a tidy record
 
@@ -49,14 +34,6 @@ every-make p i (r ∷ rs) f =
 pub free-fits : (a : Side) → fitsSide a Free ≡ true
 free-fits Position = refl
 free-fits Line = refl
-
-pub free-state : (s : State) → isFree s ≡ true → s ≡ Free
-free-state Free h = refl
-free-state ParkWaiting h = never h
-free-state LineWaiting h = never h
-free-state Requested h = never h
-free-state RemoteRequested h = never h
-free-state HandedOver h = never h
 
 zero-connection : (r : Record) → eqb (r .connection .0) 0 ≡ true → r .connection ≡ noConnection
 zero-connection r h i = record { 0 = eqb-true (r .connection .0) 0 h i }
@@ -129,30 +106,28 @@ rank-made false n rank e h = and-both (ap not (sym e)) (le-leb rank n h)
 
 -- ---- the test and the facts
 
-module _ (t : Table) (size : length (t .places) ≡ 96) where
+module _ (t : Table) where
   -- from the test
   module _ (test : isSound t ≡ true) where
     records : recordsSound t ≡ true
     records = and-left (recordsSound t) (isRanked t) test
 
-    rank-of : (i : ℕ) → i < 96 → rankSound t i ≡ true
-    rank-of i h = below-get (rankSound t) 96 (and-right (recordsSound t) (isRanked t) test) i h
+    rank-of : (i : ℕ) → i < placeCount → rankSound t i ≡ true
+    rank-of i h = below-get (rankSound t) placeCount (and-right (recordsSound t) (isRanked t) test) i h
 
-    placed : (i : ℕ) → i < 96 → placeSound i (recordAt t i) (drop (suc i) (t .places)) ≡ true
-    placed i h = rw (zero-add i) at (every-get placeSound 0 (t .places) (and-left (every placeSound 0 (t .places)) _ records) i (omega arith))
+    record-of : (i : ℕ) → i < placeCount → recordSound t i ≡ true
+    record-of i h = below-get (recordSound t) placeCount records i h
 
-    apart : (i j : ℕ) → i < j → j < 96 → clash (recordAt t i) (recordAt t j) ≡ false
+    placed : (i : ℕ) → i < placeCount → recordFits i (recordAt t i) ≡ true
+    placed i h = and-left (recordFits i (recordAt t i)) _ (record-of i h)
+
+    -- no place below has the same call
+    apart : (i j : ℕ) → j < i → i < placeCount → clash (recordAt t i) (recordAt t j) ≡ false
     apart i j lt h =
-        let later : every (unlike (recordAt t i)) (i + 1) (drop (suc i) (t .places)) ≡ true =
-        rw (zero-add i) at (every-get apartFromLater 0 (t .places) (and-right (every placeSound 0 (t .places)) _ records) i (omega arith)) in
-        let short : j - suc i < length (drop (suc i) (t .places)) = simp length-drop (omega arith) in
-        let got = every-get (unlike (recordAt t i)) (i + 1) (drop (suc i) (t .places)) later (j - suc i) short in
-        let at : suc i + (j - suc i) ≡ j = omega arith in
-        let read = getD-drop (suc i) (t .places) (j - suc i) blank ∙ ap (λ (n : ℕ). recordAt t n) at in
-        not-true (clash (recordAt t i) (recordAt t j)) (sym (ap (λ (x : Record). not (clash (recordAt t i) x)) read) ∙ got)
+        not-true (clash (recordAt t i) (recordAt t j)) (below-get (callsDiffer t i) i (and-right (recordFits i (recordAt t i)) _ (record-of i h)) j lt)
 
     -- no place below has the same rank
-    differs : (i j : ℕ) → j < i → i < 96 → ranksDiffer t i j ≡ true
+    differs : (i j : ℕ) → j < i → i < placeCount → ranksDiffer t i j ≡ true
     differs i j lt h = below-get (ranksDiffer t i) i (and-right (rankFits t i) _ (rank-of i h)) j lt
 
     pub facts-of-test : Sound t
@@ -162,9 +137,9 @@ module _ (t : Table) (size : length (t .places) ≡ 96) where
       connection-in-4-only = λ i h. tidy-connection (recordAt t i) (and-right (fitsSide (sideAt i) (recordAt t i .state)) _ (placed i h));
       one-place = λ i j hi hj fi fj c.
           ⊎-elim
-          (λ lt. absurd (not-both (clash-made (recordAt t i) (recordAt t j) fi fj c) (apart i j lt hj)))
+          (λ lt. absurd (not-both (clash-made (recordAt t j) (recordAt t i) fj fi (sym c)) (apart j i lt hj)))
           (λ le. ⊎-elim
-          (λ gt. absurd (not-both (clash-made (recordAt t j) (recordAt t i) fj fi (sym c)) (apart j i gt hi)))
+          (λ gt. absurd (not-both (clash-made (recordAt t i) (recordAt t j) fi fj c) (apart i j gt hi)))
           (λ ge. omega arith)
           (less-or j i))
           (less-or i j);
@@ -179,7 +154,7 @@ module _ (t : Table) (size : length (t .places) ≡ 96) where
 
   -- from the facts
   module _ (s : Sound t) where
-    no-clash : (i j : ℕ) → i < j → j < 96 → not (clash (recordAt t i) (recordAt t j)) ≡ true
+    no-clash : (i j : ℕ) → j < i → i < placeCount → callsDiffer t i j ≡ true
     no-clash i j lt h = by (clash (recordAt t i) (recordAt t j)) refl
       where
         by : (b : Bool) → clash (recordAt t i) (recordAt t j) ≡ b → not b ≡ true
@@ -187,30 +162,21 @@ module _ (t : Table) (size : length (t .places) ≡ 96) where
         by true q =
             let held = clash-holds (recordAt t i) (recordAt t j) q in
             let same : i ≡ j =
-            s .one-place i j (omega arith) h (clash-first (recordAt t i) (recordAt t j) q) (holds-occupied (recordAt t i .call) (recordAt t j) held)
+            s .one-place i j h (omega arith) (clash-first (recordAt t i) (recordAt t j) q) (holds-occupied (recordAt t i .call) (recordAt t j) held)
             (sym (holds-same (recordAt t i .call) (recordAt t j) held)) in
             absurd (omega arith)
 
-    apart-ranks : (i j : ℕ) → j < i → i < 96 → ranksDiffer t i j ≡ true
+    apart-ranks : (i j : ℕ) → j < i → i < placeCount → ranksDiffer t i j ≡ true
     apart-ranks i j lt h =
         differ t i j (λ side ranked same. let one : i ≡ j = s .one-rank i j h (omega arith) side ranked same in absurd (omega arith))
 
-    records-of-facts : recordsSound t ≡ true
-    records-of-facts =
-        and-both
-        (every-make placeSound 0 (t .places) (λ i h.
-        rw (zero-add i)
-        (and-both (s .fits i (omega arith)) (tidy-made (recordAt t i) (s .free-is-zeros i (omega arith)) (s .connection-in-4-only i (omega arith))))))
-        (every-make apartFromLater 0 (t .places) (λ i h.
-        rw (zero-add i)
-        (every-make (unlike (recordAt t i)) (i + 1) (drop (suc i) (t .places)) (λ m hm.
-        let far : suc i + m < length (t .places) = omega (arith, length-drop (suc i) (t .places)) in
-        ap (λ (x : Record). not (clash (recordAt t i) x)) (getD-drop (suc i) (t .places) m blank) ∙ no-clash i (suc i + m) (omega arith) (omega arith)))))
-
     pub test-of-facts : isSound t ≡ true
     test-of-facts =
-        and-both records-of-facts
-        (below-make (rankSound t) 96 (λ i h.
+        and-both
+        (below-make (recordSound t) placeCount (λ i h.
+        and-both (and-both (s .fits i h) (tidy-made (recordAt t i) (s .free-is-zeros i h) (s .connection-in-4-only i h)))
+        (below-make (callsDiffer t i) i (λ j lt. no-clash i j lt h))))
+        (below-make (rankSound t) placeCount (λ i h.
         and-both (rank-made (isFree (recordAt t i .state)) (callsOn t (sideAt i)) (rankAt t i) (s .ranked-if-held i h) (s .rank-to-n i h))
         (below-make (ranksDiffer t i) i (λ j lt. apart-ranks i j lt h))))
 

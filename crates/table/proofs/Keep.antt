@@ -1,5 +1,4 @@
 -- A table with one record put anew: what stands at its places, what becomes of the ranks, and when it is sound.
--- Assumes nothing.
 use mathlib.Core.Path.{_≡_, refl, sym, ap, _∙_}
 use mathlib.Core.Bool.{Bool, true, false, cond, not, _&&_}
 use mathlib.Core.Logic.{⊎-elim}
@@ -15,10 +14,11 @@ use Rattle.laws.proofs.Bools.{equal-or, not-both}
 use Rattle.table.specs.declared.Side.{Side}
 use Rattle.table.specs.declared.Record.{Record}
 use Rattle.table.specs.declared.Table.{Table}
-use Rattle.table.specs.Places.{stateNumber, isFree, sameSide, sideAt, noConnection, freeRecord, blank, recordAt, rankAt}
+use Rattle.table.specs.Places.{stateNumber, isFree, sameSide, sideAt, noConnection, freeRecord, blank, recordAt, rankAt, placeCount}
 use Rattle.table.specs.Sound.{fitsSide, Sound}
 use Rattle.table.specs.Ranks.{heldOn, callsOn, lowered, closedUp, reranked, put}
-use Rattle.table.proofs.RankLaws.{same-side, other-side, total-set, closed-size, closed-below, Drops, drops, keeps, aside, drops-view}
+use Rattle.table.proofs.Sides.{same-side, other-side}
+use Rattle.table.proofs.RankLaws.{total-set, closed-size, closed-below, Drops, drops, keeps, aside, drops-view}
 
 -- the record that was there, put again
 pub put-same : (t : Table) (i : ℕ) → put t i (recordAt t i) ≡ t
@@ -29,14 +29,14 @@ put-same t i = by (isFree (recordAt t i .state))
     by false = λ j. record { places = set-getD (t .places) i blank j; ranks = t .ranks }
 
 -- there are as many ranks as before
-pub reranked-wide : (t : Table) (i : ℕ) → length (t .ranks) ≡ 96 → (before after : Bool) → length (reranked t i before after) ≡ 96
+pub reranked-wide : (t : Table) (i : ℕ) → length (t .ranks) ≡ placeCount → (before after : Bool) → length (reranked t i before after) ≡ placeCount
 reranked-wide t i wide true true = wide
 reranked-wide t i wide true false = length-set (t .ranks) i _ ∙ wide
-reranked-wide t i wide false true = length-set (closedUp (sideAt i) (rankAt t i) 96 (t .ranks)) i _ ∙ closed-size (sideAt i) (rankAt t i) 96 (t .ranks) ∙ wide
+reranked-wide t i wide false true = length-set (closedUp (λ j. j) (sideAt i) (rankAt t i) placeCount (t .ranks)) i _ ∙ closed-size (λ j. j) (sideAt i) (rankAt t i) placeCount (t .ranks) ∙ wide
 reranked-wide t i wide false false = wide
 
-module _ (t : Table) (size : length (t .places) ≡ 96) (i : ℕ) (inside : i < 96) (r : Record) where
-  pub put-size : length (put t i r .places) ≡ 96
+module _ (t : Table) (size : length (t .places) ≡ placeCount) (i : ℕ) (inside : i < placeCount) (r : Record) where
+  pub put-size : length (put t i r .places) ≡ placeCount
   put-size = length-set (t .places) i r ∙ size
 
   pub put-here : recordAt (put t i r) i ≡ r
@@ -49,7 +49,7 @@ module _ (t : Table) (size : length (t .places) ≡ 96) (i : ℕ) (inside : i < 
   put-other j ne = getD-set-other (t .places) i j r blank ne
 
   -- what holds of r at i and of each other record at its index holds of each record of the new table
-  pub each : (P : ℕ → Record → Type 0) → P i r → ((j : ℕ) → j < 96 → P j (recordAt t j)) → (j : ℕ) → j < 96 → P j (recordAt (put t i r) j)
+  pub each : (P : ℕ → Record → Type 0) → P i r → ((j : ℕ) → j < placeCount → P j (recordAt t j)) → (j : ℕ) → j < placeCount → P j (recordAt (put t i r) j)
   each P p f j h = ⊎-elim (λ e. rw e (rw put-here p)) (λ ne. rw (put-other j ne) (f j h)) (equal-or j i)
 
   -- ---- the ranks after it
@@ -58,8 +58,8 @@ module _ (t : Table) (size : length (t .places) ≡ 96) (i : ℕ) (inside : i < 
   pub calls-put : (a : Side) → callsOn (put t i r) a + heldOn a i (recordAt t i) ≡ callsOn t a + heldOn a i r
   calls-put a = rw (zero-add i) at (total-set (heldOn a) 0 (t .places) i r (omega arith))
 
-  module _ (wide : length (t .ranks) ≡ 96) where
-    pub put-wide : length (put t i r .ranks) ≡ 96
+  module _ (wide : length (t .ranks) ≡ placeCount) where
+    pub put-wide : length (put t i r .ranks) ≡ placeCount
     put-wide = reranked-wide t i wide (isFree (recordAt t i .state)) (isFree (r .state))
 
     -- a place that is not freed: it has a rank as before, or the next of its side, and the others keep theirs
@@ -80,20 +80,20 @@ module _ (t : Table) (size : length (t .places) ≡ 96) (i : ℕ) (inside : i < 
     -- a place that is freed
     module _ (was : isFree (recordAt t i .state) ≡ false) (is : isFree (r .state) ≡ true) where
       abbrev closed : List ℕ
-      closed = closedUp (sideAt i) (rankAt t i) 96 (t .ranks)
+      closed = closedUp (λ j. j) (sideAt i) (rankAt t i) placeCount (t .ranks)
 
       pub rank-freed : rankAt (put t i r) i ≡ 0
-      rank-freed = rw (was, is) (getD-set-same closed i 0 0 (omega (arith, closed-size (sideAt i) (rankAt t i) 96 (t .ranks))))
+      rank-freed = rw (was, is) (getD-set-same closed i 0 0 (omega (arith, closed-size (λ j. j) (sideAt i) (rankAt t i) placeCount (t .ranks))))
 
-      pub ranks-drop : (j : ℕ) → j < 96 → (j ≡ i → ⊥) → rankAt (put t i r) j ≡ lowered (sideAt i) (rankAt t i) j (rankAt t j)
-      ranks-drop j h ne = rw (was, is) (getD-set-other closed i j _ 0 ne ∙ closed-below (sideAt i) (rankAt t i) 96 (t .ranks) j h (omega arith))
+      pub ranks-drop : (j : ℕ) → j < placeCount → (j ≡ i → ⊥) → rankAt (put t i r) j ≡ lowered (sideAt i) (rankAt t i) j (rankAt t j)
+      ranks-drop j h ne = rw (was, is) (getD-set-other closed i j _ 0 ne ∙ closed-below (λ j. j) (sideAt i) (rankAt t i) (λ x y e. e) placeCount (t .ranks) j h (omega arith))
 
-  module _ (wide : length (t .ranks) ≡ 96) (S : Sound t) where
+  module _ (wide : length (t .ranks) ≡ placeCount) (S : Sound t) where
     -- what a sound table has of ranks
     record RankFacts : Type 0 where
-      held : (j : ℕ) → j < 96 → isFree (recordAt (put t i r) j .state) ≡ eqb (rankAt (put t i r) j) 0
-      to-n : (j : ℕ) → j < 96 → rankAt (put t i r) j ≤ callsOn (put t i r) (sideAt j)
-      one : (j k : ℕ) → j < 96 → k < 96 → sideAt j ≡ sideAt k → (rankAt (put t i r) j ≡ 0 → ⊥) → rankAt (put t i r) j ≡ rankAt (put t i r) k → j ≡ k
+      held : (j : ℕ) → j < placeCount → isFree (recordAt (put t i r) j .state) ≡ eqb (rankAt (put t i r) j) 0
+      to-n : (j : ℕ) → j < placeCount → rankAt (put t i r) j ≤ callsOn (put t i r) (sideAt j)
+      one : (j k : ℕ) → j < placeCount → k < placeCount → sideAt j ≡ sideAt k → (rankAt (put t i r) j ≡ 0 → ⊥) → rankAt (put t i r) j ≡ rankAt (put t i r) k → j ≡ k
 
     -- a place that stays free or stays occupied
     rank-stays : isFree (recordAt t i .state) ≡ isFree (r .state) → put t i r .ranks ≡ t .ranks → RankFacts
@@ -129,7 +129,7 @@ module _ (t : Table) (size : length (t .places) ≡ 96) (i : ℕ) (inside : i < 
           by false h = omega (arith, h)
 
       -- the new rank is above every other of its side
-      above : (j : ℕ) → j < 96 → sideAt j ≡ sideAt i → rankAt t j ≡ rankAt (put t i r) i → ⊥
+      above : (j : ℕ) → j < placeCount → sideAt j ≡ sideAt i → rankAt t j ≡ rankAt (put t i r) i → ⊥
       above j h side same = let low = rw side at (S .rank-to-n j h) in omega (arith, low, same ∙ new-here)
 
       rank-begins : RankFacts
@@ -161,7 +161,7 @@ module _ (t : Table) (size : length (t .places) ≡ 96) (i : ℕ) (inside : i < 
       freed-here : rankAt (put t i r) i ≡ 0
       freed-here = rank-freed wide was is
 
-      freed-there : (j : ℕ) → j < 96 → (j ≡ i → ⊥) → rankAt (put t i r) j ≡ lowered (sideAt i) gone j (rankAt t j)
+      freed-there : (j : ℕ) → j < placeCount → (j ≡ i → ⊥) → rankAt (put t i r) j ≡ lowered (sideAt i) gone j (rankAt t j)
       freed-there = ranks-drop wide was is
 
       one-fewer : callsOn (put t i r) (sideAt i) + 1 ≡ callsOn t (sideAt i)
@@ -177,7 +177,7 @@ module _ (t : Table) (size : length (t .places) ≡ 96) (i : ℕ) (inside : i < 
           omega (arith, h)
 
       -- no other place of the side has the rank of the freed one
-      unlike : (j : ℕ) → j < 96 → (j ≡ i → ⊥) → sideAt j ≡ sideAt i → rankAt t j ≡ gone → ⊥
+      unlike : (j : ℕ) → j < placeCount → (j ≡ i → ⊥) → sideAt j ≡ sideAt i → rankAt t j ≡ gone → ⊥
       unlike j h ne side e = ne (sym (S .one-rank i j inside h (sym side) ranked (sym e)))
 
       dropped-0 : (j x : ℕ) → Drops (sideAt i) gone j (rankAt t j) x → eqb (rankAt t j) 0 ≡ eqb x 0
@@ -186,13 +186,13 @@ module _ (t : Table) (size : length (t .places) ≡ 96) (i : ℕ) (inside : i < 
       dropped-0 j x (keeps side le) = refl
       dropped-0 j x (aside other) = refl
 
-      dropped-low : (j : ℕ) → j < 96 → (j ≡ i → ⊥) → (x : ℕ) → Drops (sideAt i) gone j (rankAt t j) x → x ≤ callsOn (put t i r) (sideAt j)
+      dropped-low : (j : ℕ) → j < placeCount → (j ≡ i → ⊥) → (x : ℕ) → Drops (sideAt i) gone j (rankAt t j) x → x ≤ callsOn (put t i r) (sideAt j)
       dropped-low j h ne x (drops side lt) = let low = S .rank-to-n j h in rw side (omega (arith, rw side at low, one-fewer))
       dropped-low j h ne x (keeps side le) =
           rw side (⊎-elim (λ e. absurd (unlike j h ne side e)) (λ n. omega (arith, n, le, S .rank-to-n i inside, one-fewer)) (equal-or (rankAt t j) gone))
       dropped-low j h ne x (aside other) = rw (as-many (sideAt j) other) (S .rank-to-n j h)
 
-      dropped-one : (j k : ℕ) → j < 96 → k < 96 → (j ≡ i → ⊥) → (k ≡ i → ⊥) → sideAt j ≡ sideAt k → (x y : ℕ)
+      dropped-one : (j k : ℕ) → j < placeCount → k < placeCount → (j ≡ i → ⊥) → (k ≡ i → ⊥) → sideAt j ≡ sideAt k → (x y : ℕ)
           → Drops (sideAt i) gone j (rankAt t j) x → Drops (sideAt i) gone k (rankAt t k) y → (x ≡ 0 → ⊥) → x ≡ y → rankAt t j ≡ rankAt t k
       dropped-one j k hj hk nj nk side x y (drops sj lj) (drops sk lk) n e = omega (arith, e, lj, lk)
       dropped-one j k hj hk nj nk side x y (drops sj lj) (keeps sk lk) n e = absurd (unlike k hk nk sk (omega (arith, e, lj, lk)))
@@ -234,9 +234,9 @@ module _ (t : Table) (size : length (t .places) ≡ 96) (i : ℕ) (inside : i < 
         by false p true q = rank-ends p q
 
   -- a record that fits its place, is tidy, and whose call no other place holds
-  pub put-sound : length (t .ranks) ≡ 96 → Sound t → fitsSide (sideAt i) (r .state) ≡ true → (isFree (r .state) ≡ true → r ≡ freeRecord)
+  pub put-sound : length (t .ranks) ≡ placeCount → Sound t → fitsSide (sideAt i) (r .state) ≡ true → (isFree (r .state) ≡ true → r ≡ freeRecord)
       → ((stateNumber (r .state) ≡ 4 → ⊥) → r .connection ≡ noConnection)
-      → ((j : ℕ) → j < 96 → (j ≡ i → ⊥) → isFree (r .state) ≡ false → isFree (recordAt t j .state) ≡ false → r .call ≡ recordAt t j .call → ⊥)
+      → ((j : ℕ) → j < placeCount → (j ≡ i → ⊥) → isFree (r .state) ≡ false → isFree (recordAt t j .state) ≡ false → r .call ≡ recordAt t j .call → ⊥)
       → Sound (put t i r)
   put-sound wide s fit zeros none alone = record {
     fits = each (λ j x. fitsSide (sideAt j) (x .state) ≡ true) fit (s .fits);

@@ -1,6 +1,4 @@
--- One step of each definition that a loop follows, at index i of a list, and its end past the list; bounds of a place's share in
--- the sums.
--- Assumes nothing.
+-- Two calls, compared from an index on; bounds of the numbers of a side and of a place's share in the sums.
 use mathlib.Core.Path.{_≡_}
 use mathlib.Core.Bool.{Bool, true, false, cond, _&&_}
 use mathlib.Core.List.{List}
@@ -27,24 +25,9 @@ same-at a b i ha hb = rw (add-one, drop-cons a i 0, drop-cons b i 0)
 pub same-end : (a b : List ℕ) (i : ℕ) → length a ≤ i → length b ≤ i → sameCall (drop i a) (drop i b) ≡ true
 same-end a b i ha hb = rw (drop-of-length-le a ha, drop-of-length-le b hb)
 
-pub total-at : (f : ℕ → Record → ℕ) (l : List Record) (i : ℕ) → i < length l
-    → total f i (drop i l) ≡ f i (getD l i blank) + total f (i + 1) (drop (i + 1) l)
-total-at f l i h = rw (drop-cons l i blank, add-one i)
-
-pub total-end : (f : ℕ → Record → ℕ) (l : List Record) (i : ℕ) → length l ≤ i → total f i (drop i l) ≡ 0
-total-end f l i h = rw (drop-of-length-le l h)
-
 pub side-below : (a : Side) → sideIndex a < 2
 side-below Position = lit< tt
 side-below Line = lit< tt
-
-pub state-below : (s : State) → stateNumber s < 6
-state-below Free = lit< tt
-state-below ParkWaiting = lit< tt
-state-below LineWaiting = lit< tt
-state-below Requested = lit< tt
-state-below RemoteRequested = lit< tt
-state-below HandedOver = lit< tt
 
 pub one-or-none : (b : Bool) → cond {A = ℕ} b 1 0 ≤ 1
 one-or-none true = lit≤ tt

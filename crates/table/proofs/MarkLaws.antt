@@ -1,5 +1,4 @@
 -- Marks: the ranks below an index are marked, so a rank that is not marked is new on its side, and one that is stands below it.
--- Assumes nothing.
 use mathlib.Core.Path.{_≡_, refl, sym, ap, subst, _∙_}
 use mathlib.Core.Bool.{Bool, true, false, cond, _&&_}
 use mathlib.Core.Logic.{⊎-elim}
@@ -16,12 +15,13 @@ use Rattle.laws.proofs.Bools.{and-left, and-right, and-both, not-both, equal-or
 use Rattle.table.specs.declared.Side.{Side}
 use Rattle.table.specs.declared.Side.the-variants.{Position, Line}
 use Rattle.table.specs.declared.Table.{Table}
-use Rattle.table.specs.Places.{isFree, sideAt, recordAt, rankAt}
-use Rattle.table.specs.Search.{below}
+use Rattle.table.specs.Places.{isFree, sideAt, recordAt, rankAt, placeCount}
+use Rattle.laws.specs.Lists.{below}
 use Rattle.table.specs.Ranks.{callsOn, rankFits, ranksDiffer, rankSound}
 use Rattle.table.specs.Marks.{ofSide, slotOf, isFresh, withMark, Marked, Entering}
 use Rattle.table.proofs.Laws.{side-below}
-use Rattle.table.proofs.RankLaws.{calls-few, alike, differ, below-get, below-make, below-not}
+use Rattle.table.proofs.RankLaws.{calls-few, alike, differ}
+use Rattle.laws.proofs.Lists.{below-none, below-make, below-not}
 use Rattle.table.proofs.Facts.{rank-low}
 
 -- a slot is of one rank of one side
@@ -128,7 +128,7 @@ pub side-calls : (t : Table) (a : Side) → ofSide a (callsOn t Position) (calls
 side-calls t Position = refl
 side-calls t Line = refl
 
-module _ (t : Table) (size : length (t .places) ≡ 96) (n : ℕ) (marks : List ℕ) (M : Marked t n marks) where
+module _ (t : Table) (size : length (t .places) ≡ placeCount) (n : ℕ) (marks : List ℕ) (M : Marked t n marks) where
   low-rank : rankFits t n ≡ true → rankAt t n < 256
   low-rank fits = omega (arith, rank-low (isFree (recordAt t n .state)) (callsOn t (sideAt n)) (rankAt t n) fits, calls-few t (sideAt n))
 
@@ -158,9 +158,6 @@ zeros (suc n) (suc s) = zeros n s
 
 pub entering-none : (t : Table) (marks : List ℕ) → marks ≡ replicate 512 0 → Entering t 0 marks
 entering-none t marks e = (
-  below-make (rankSound t) 0 (λ i h. absurd (not-suc-le-zero h)),
+  below-none (rankSound t),
   no-marks t marks (ap length e ∙ length-replicate {A = ℕ} 512 0) (λ s. ap (λ (l : List ℕ). getD l s 0) e ∙ zeros 512 s),
 )
-
-pub below-more : (p : ℕ → Bool) (n : ℕ) → below p n ≡ true → p n ≡ true → below p (n + 1) ≡ true
-below-more p n e q = rw add-one (below-make p (suc n) (λ i h. ⊎-elim (λ same. rw same q) (λ other. below-get p n e i (omega arith)) (equal-or i n)))

@@ -1,6 +1,5 @@
--- Laws of ranks: every index below a bound, the calls of a side after a record is put anew, and what becomes of each rank.
--- Assumes nothing.
-use mathlib.Core.Path.{_≡_, refl, sym, ap, subst, _∙_}
+-- Laws of ranks: the calls of a side after a record is put anew, what becomes of each rank, and who is served next.
+use mathlib.Core.Path.{_≡_, refl, sym, ap, ap₂, subst, _∙_}
 use mathlib.Core.Bool.{Bool, true, false, cond, not, _&&_}
 use mathlib.Core.List.{List, [], _∷_}
 use mathlib.Core.Logic.{_⊎_, inl, inr, ⊎-elim}
@@ -11,8 +10,8 @@ use native.Mathlib.Omega.{arith}
 use lib.Dec.{eqb}
 use borrow.Author.Tests.{eqb-true, eqb-false, eq-eqb, ne-eqb, lt-ltb, le-ltb}
 use lib.ListN.{length, getD, set, length-set}
-use lib.Seq.{getD-set-same, getD-set-other}
-use Rattle.laws.proofs.Bools.{never, and-left, and-right, and-both, not-both, equal-or, less-or}
+use lib.Seq.{getD-set-same, getD-set-other, set-getD}
+use Rattle.laws.proofs.Bools.{not-both, equal-or, less-or}
 use Rattle.table.specs.declared.Side.{Side}
 use Rattle.table.specs.declared.Side.the-variants.{Position, Line}
 use Rattle.table.specs.declared.Record.{Record}
@@ -20,55 +19,10 @@ use Rattle.table.specs.declared.Table.{Table}
 use Rattle.table.specs.declared.Found.{Found}
 use Rattle.table.specs.declared.Found.the-variants.{At, Nothing}
 use Rattle.table.specs.Places.{isFree, sameSide, waitingOn, sideAt, blank, recordAt, rankAt}
-use Rattle.table.specs.Search.{isAt, below, total}
+use Rattle.table.specs.Search.{isAt, total}
 use Rattle.table.specs.Ranks.{earlier, earliest, heldOn, callsOn, ranksDiffer, movedUp, lowered, closedUp}
 use Rattle.table.proofs.Laws.{one-or-none}
-
--- ---- every index below a bound
-
-pub below-get : (p : ℕ → Bool) (n : ℕ) → below p n ≡ true → (i : ℕ) → i < n → p i ≡ true
-unfolding below
-below-get p zero e i h = absurd (not-suc-le-zero h)
-below-get p (suc n) e i h =
-    ⊎-elim (λ same. rw same (and-left (p n) (below p n) e)) (λ other. below-get p n (and-right (p n) (below p n) e) i (omega arith)) (equal-or i n)
-
-pub below-make : (p : ℕ → Bool) (n : ℕ) → ((i : ℕ) → i < n → p i ≡ true) → below p n ≡ true
-unfolding below
-below-make p zero f = refl
-below-make p (suc n) f = and-both (f n (omega arith)) (below-make p n (λ i h. f i (omega arith)))
-
-pub below-not : (p : ℕ → Bool) (n i : ℕ) → i < n → p i ≡ false → below p n ≡ false
-below-not p n i h e = by (below p n) refl
-  where
-    by : (b : Bool) → below p n ≡ b → b ≡ false
-    by false q = refl
-    by true q = absurd (not-both (below-get p n q i h) e)
-
--- ---- sides
-
-pub side-is : (a b : Side) → sameSide a b ≡ true → a ≡ b
-side-is Position Position h = refl
-side-is Position Line h = never h
-side-is Line Position h = never h
-side-is Line Line h = refl
-
-pub same-side : (a b : Side) → a ≡ b → sameSide a b ≡ true
-same-side Position b e = rw (← e)
-same-side Line b e = rw (← e)
-
-pub other-side : (a b : Side) → (a ≡ b → ⊥) → sameSide a b ≡ false
-other-side a b n = by (sameSide a b) refl
-  where
-    by : (x : Bool) → sameSide a b ≡ x → x ≡ false
-    by false q = refl
-    by true q = absurd (n (side-is a b q))
-
-pub side-or : (a b : Side) → (a ≡ b) ⊎ (a ≡ b → ⊥)
-side-or a b = by (sameSide a b) refl
-  where
-    by : (x : Bool) → sameSide a b ≡ x → (a ≡ b) ⊎ (a ≡ b → ⊥)
-    by true q = inl (side-is a b q)
-    by false q = inr (λ e. not-both (same-side a b e) q)
+use Rattle.table.proofs.Sides.{same-side, other-side, side-is, side-or}
 
 -- ---- two ranks
 
@@ -110,21 +64,7 @@ total-few f one i (r ∷ rs) = omega (arith, one i r, total-few f one (i + 1) rs
 pub calls-few : (t : Table) (a : Side) → callsOn t a ≤ length (t .places)
 calls-few t a = total-few (heldOn a) (λ i r. one-or-none (sameSide (sideAt i) a && not (isFree (r .state)))) 0 (t .places)
 
--- ---- ranks that close up
-
-pub closed-size : (a : Side) (k n : ℕ) (l : List ℕ) → length (closedUp a k n l) ≡ length l
-unfolding closedUp
-closed-size a k zero l = refl
-closed-size a k (suc n) l = length-set (closedUp a k n l) n _ ∙ closed-size a k n l
-
-pub closed-below : (a : Side) (k n : ℕ) (l : List ℕ) (j : ℕ) → j < n → j < length l → getD (closedUp a k n l) j 0 ≡ lowered a k j (getD l j 0)
-unfolding closedUp
-closed-below a k zero l j h w = absurd (not-suc-le-zero h)
-closed-below a k (suc n) l j h w =
-    ⊎-elim
-    (λ same. rw same (getD-set-same (closedUp a k n l) n _ 0 (omega (arith, closed-size a k n l, same))))
-    (λ other. getD-set-other (closedUp a k n l) n j _ 0 other ∙ closed-below a k n l j (omega arith) w)
-    (equal-or j n)
+-- ---- what becomes of a rank
 
 -- the three things that can become of a rank
 pub data Drops (a : Side) (k j r : ℕ) : ℕ → Type 0 where
@@ -154,6 +94,53 @@ module _ (a : Side) (k j r : ℕ) where
       (less-or k r))
       (λ other. subst (Drops a k j r) (sym (lowered-aside other)) (aside other))
       (side-or (sideAt j) a)
+
+-- ---- ranks that close up
+
+-- in a list in which no two ranks stand at one index
+module _ (at : ℕ → ℕ) (a : Side) (k : ℕ) where
+  pub closed-none : (l : List ℕ) → closedUp at a k 0 l ≡ l
+  unfolding closedUp
+  closed-none l = refl
+
+  pub closed-more : (n : ℕ) (l : List ℕ) → closedUp at a k (n + 1) l ≡ set (closedUp at a k n l) (at n) (lowered a k n (getD l (at n) 0))
+  unfolding closedUp
+  closed-more n l = ap (λ (m : ℕ). closedUp at a k m l) (add-one n)
+
+  pub closed-size : (n : ℕ) (l : List ℕ) → length (closedUp at a k n l) ≡ length l
+  unfolding closedUp
+  closed-size zero l = refl
+  closed-size (suc n) l = length-set (closedUp at a k n l) (at n) _ ∙ closed-size n l
+
+  module _ (apart : (i j : ℕ) → at i ≡ at j → i ≡ j) where
+    -- the ranks of later places are as they were
+    pub closed-above : (n : ℕ) (l : List ℕ) (j : ℕ) → n ≤ j → getD (closedUp at a k n l) (at j) 0 ≡ getD l (at j) 0
+    unfolding closedUp
+    closed-above zero l j h = refl
+    closed-above (suc n) l j h =
+        getD-set-other (closedUp at a k n l) (at n) (at j) _ 0 (λ e. absurd (omega (arith, apart j n e))) ∙ closed-above n l j (omega arith)
+
+    pub closed-below : (n : ℕ) (l : List ℕ) (j : ℕ) → j < n → at j < length l → getD (closedUp at a k n l) (at j) 0 ≡ lowered a k j (getD l (at j) 0)
+    unfolding closedUp
+    closed-below zero l j h w = absurd (not-suc-le-zero h)
+    closed-below (suc n) l j h w =
+        ⊎-elim
+        (λ same. rw same (getD-set-same (closedUp at a k n l) (at n) _ 0 (omega (arith, closed-size n l, ap at same))))
+        (λ other. getD-set-other (closedUp at a k n l) (at n) (at j) _ 0 (λ e. other (apart j n e)) ∙ closed-below n l j (omega arith) w)
+        (equal-or j n)
+
+    -- places of the other side add nothing
+    pub closed-rest : (n m : ℕ) (l : List ℕ) → n ≤ m → ((j : ℕ) → n ≤ j → j < m → sideAt j ≡ a → ⊥) → closedUp at a k m l ≡ closedUp at a k n l
+    unfolding closedUp
+    closed-rest n zero l h other = let none : n ≡ 0 = omega arith in rw none
+    closed-rest n (suc m) l h other =
+        ⊎-elim
+        (λ past. rw past)
+        (λ more.
+        ap₂ (λ (x : List ℕ) (r : ℕ). set x (at m) r) (closed-rest n m l (omega arith) (λ j low high. other j low (omega arith)))
+        (lowered-aside a k m (getD l (at m) 0) (other m (omega arith) (omega arith)) ∙ sym (closed-above n l m (omega arith)))
+        ∙ set-getD (closedUp at a k n l) (at m) 0)
+        (equal-or n (suc m))
 
 -- ---- the waiting call that came first
 

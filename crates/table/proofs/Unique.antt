@@ -1,5 +1,4 @@
 -- Of every public function: two results that meet its contract are equal, since each contract is an equation with a definition.
--- Assumes nothing.
 use mathlib.Core.Path.{sym, _∙_}
 use Rattle.laws.specs.Decides.{Decides}
 use Rattle.table.proofs.State.number.Reads as state-number
@@ -15,7 +14,10 @@ use Rattle.table.proofs.Table.empty.Reads as empty
 use Rattle.table.proofs.timers.timer_set.Reads as timer-set
 use Rattle.table.proofs.timers.started.Reads as started
 use Rattle.table.proofs.search.same_call.Reads as same-call
-use Rattle.table.proofs.search.is_at.Reads as is-at
+use Rattle.table.proofs.State.of.Reads as state-of
+use Rattle.table.proofs.Side.first.Reads as side-first
+use Rattle.table.proofs.Side.end.Reads as side-end
+use Rattle.table.proofs.Side.missing.Reads as missing
 use Rattle.table.proofs.Side.same.Reads as same
 
 pub record Decided : Type 0 where
@@ -32,7 +34,10 @@ pub record Decided : Type 0 where
   pub timer-set-decided : Decides timer-set.Post
   pub started-decided : Decides started.Post
   pub same-call-decided : Decides same-call.Post
-  pub is-at-decided : Decides is-at.Post
+  pub of-decided : Decides state-of.Post
+  pub first-decided : Decides side-first.Post
+  pub end-decided : Decides side-end.Post
+  pub missing-decided : Decides missing.Post
   pub same-decided : Decides same.Post
 
 pub decided : Decided
@@ -50,6 +55,9 @@ decided = record {
   timer-set-decided = λ κ a x y d e p q. p ∙ sym q;
   started-decided = λ κ a x y d e p q. p ∙ sym q;
   same-call-decided = λ κ a x y d e p q. p ∙ sym q;
-  is-at-decided = λ κ a x y d e p q. p ∙ sym q;
+  of-decided = λ κ a x y d e p q. p ∙ sym q;
+  first-decided = λ κ a x y d e p q. p ∙ sym q;
+  end-decided = λ κ a x y d e p q. p ∙ sym q;
+  missing-decided = λ κ a x y d e p q. p ∙ sym q;
   same-decided = λ κ a x y d e p q. p ∙ sym q;
 }

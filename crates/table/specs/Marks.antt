@@ -1,16 +1,15 @@
 -- Marks, by which one pass over the places tells whether two of a side have the same rank. For speed only: no statement of the table depends on them.
--- Assumes nothing.
 use mathlib.Core.Path.{_≡_}
 use mathlib.Core.Bool.{Bool, true, cond}
 use mathlib.Core.List.{List}
 use Prim.Native.Nat.{ℕ, _+_, _*_, _<_}
 use lib.Dec.{eqb}
 use lib.ListN.{length, getD, set}
+use Rattle.laws.specs.Lists.{below}
 use Rattle.table.specs.declared.Side.{Side}
 use Rattle.table.specs.declared.Side.the-variants.{Position, Line}
 use Rattle.table.specs.declared.Table.{Table}
 use Rattle.table.specs.Places.{sideIndex, sideAt, rankAt}
-use Rattle.table.specs.Search.{below}
 use Rattle.table.specs.Ranks.{rankSound}
 
 -- of two numbers, one for each side, that of a side

@@ -1,18 +1,18 @@
 -- Ranks (document 02, Q-4): "Each record keeps its rank among the occupied places of its side, from 1". Who is served next, what ranks a sound
 -- table has, and what becomes of them when the record of a place is put anew.
--- Assumes nothing.
 use mathlib.Core.Bool.{Bool, true, false, cond, not, _&&_}
 use mathlib.Core.List.{List}
 use Prim.Native.Nat.{ℕ, zero, suc, _+_, _-_}
 use lib.Dec.{eqb, ltb, leb}
 use lib.ListN.{getD, set}
+use Rattle.laws.specs.Lists.{below}
 use Rattle.table.specs.declared.Side.{Side}
 use Rattle.table.specs.declared.Record.{Record}
 use Rattle.table.specs.declared.Table.{Table}
 use Rattle.table.specs.declared.Found.{Found}
 use Rattle.table.specs.declared.Found.the-variants.{At, Nothing}
-use Rattle.table.specs.Places.{isFree, sameSide, waitingOn, sideAt, recordAt, rankAt}
-use Rattle.table.specs.Search.{isAt, below, total}
+use Rattle.table.specs.Places.{isFree, sameSide, waitingOn, sideAt, recordAt, rankAt, placeCount}
+use Rattle.table.specs.Search.{isAt, total}
 
 -- ---- who is served next
 
@@ -28,7 +28,7 @@ earliest t a (suc n) = cond (isAt a (waitingOn a) n (recordAt t n)) (earlier t n
 
 -- "With choice 1 or 2, take the waiting call that came first on its side."
 abbrev pub nextWaiting : Table → Side → Found
-nextWaiting t a = earliest t a 96
+nextWaiting t a = earliest t a placeCount
 
 -- ---- what ranks a sound table has
 
@@ -57,7 +57,7 @@ rankSound t i = rankFits t i && below (ranksDiffer t i) i
 
 -- "The ranks of a side with n calls are exactly 1 to n": they are from 1 to n and differ, and so each of the n numbers is there (`every-rank`)
 abbrev pub isRanked : Table → Bool
-isRanked t = below (rankSound t) 96
+isRanked t = below (rankSound t) placeCount
 
 -- ---- a record put anew
 
@@ -69,17 +69,18 @@ movedUp k r = cond (ltb k r) (r - 1) r
 abbrev pub lowered : Side → ℕ → ℕ → ℕ → ℕ
 lowered a k j r = cond (sameSide (sideAt j) a) (movedUp k r) r
 
--- the ranks, those of the first n places lowered
-unfoldable pub closedUp : Side → ℕ → ℕ → List ℕ → List ℕ
-closedUp a k zero ranks = ranks
-closedUp a k (suc n) ranks = set (closedUp a k n ranks) n (lowered a k n (getD ranks n 0))
+-- A list in which the rank of place j stands at index `at j`, those of the first n places lowered. In a table that is index j; the image has it
+-- among other octets.
+unfoldable pub closedUp : (ℕ → ℕ) → Side → ℕ → ℕ → List ℕ → List ℕ
+closedUp at a k zero l = l
+closedUp at a k (suc n) l = set (closedUp at a k n l) (at n) (lowered a k n (getD l (at n) 0))
 
 -- the ranks when the place at an index, free or not, becomes free or not: a new call is the last of its side; "when a place is freed, higher ranks
 -- on that side drop by one"; "A call sent back to waiting keeps its rank."
 abbrev pub reranked : Table → ℕ → Bool → Bool → List ℕ
 reranked t i true true = t .ranks
 reranked t i true false = set (t .ranks) i (callsOn t (sideAt i) + 1)
-reranked t i false true = set (closedUp (sideAt i) (rankAt t i) 96 (t .ranks)) i 0
+reranked t i false true = set (closedUp (λ j. j) (sideAt i) (rankAt t i) placeCount (t .ranks)) i 0
 reranked t i false false = t .ranks
 
 -- the table with a record put anew at an index

@@ -1,5 +1,4 @@
 -- The status query (document 01, "Status gives .."): four sums over the places.
--- Assumes nothing.
 use mathlib.Core.Bool.{cond}
 use Prim.Native.Nat.{ℕ}
 use lib.Count.{ones}

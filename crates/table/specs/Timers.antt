@@ -1,5 +1,4 @@
 -- Timers by side and state (document 01, "Timers by state"): a constant table of tables, and what two of its entries differ by.
--- Assumes nothing.
 use mathlib.Core.List.{List, [], _∷_}
 use Prim.Native.Nat.{ℕ, _-_}
 use lib.Bits.{bitAnd}

@@ -9,7 +9,7 @@ pub mod status;
 pub mod timers;
 
 ghost use mathlib.Core.Path.{_≡_};
-ghost use Rattle.table.specs.Places.{stateNumber, sameState, isFree, sideIndex, sameSide, waitingOn, sideOf, isOf, placeAt, sideAt, freeRecord, emptyTable};
+ghost use Rattle.table.specs.Places.{stateNumber, sameState, isFree, stateOf, sideIndex, sameSide, waitingOn, missingOn, sideOf, isOf, placeAt, sideAt, firstIndex, endIndex, freeRecord, emptyTable};
 
 // The number of a place: 1 to 96. Others are numbers of no place.
 pub struct Place(pub u16);
@@ -49,7 +49,7 @@ pub enum Found {
 
 pub struct Record {
     pub state: State,
-    pub call: [u8; 16],
+    pub call: [u8; Table::CALL_OCTETS],
     pub connection: Connection,
     pub count: Invoke,
 }
@@ -77,17 +77,24 @@ impl State {
         }
     }
 
+    // The state with a number. A number that is none's is looked at first, and gives the last.
+    pub fn of(n: u8) -> State
+        ensures { λ r. ⌜ r ≡ stateOf n ⌝ }
+    {
+        match n {
+            0 => State::Free,
+            1 => State::ParkWaiting,
+            2 => State::LineWaiting,
+            3 => State::Requested,
+            4 => State::RemoteRequested,
+            _ => State::HandedOver,
+        }
+    }
+
     pub fn is_free(self) -> bool
         ensures { λ r. ⌜ r ≡ isFree self ⌝ }
     {
-        match self {
-            State::Free => true,
-            State::ParkWaiting => false,
-            State::LineWaiting => false,
-            State::Requested => false,
-            State::RemoteRequested => false,
-            State::HandedOver => false,
-        }
+        self.same(State::Free)
     }
 
     pub(crate) fn same(self, other: State) -> bool
@@ -98,6 +105,25 @@ impl State {
 }
 
 impl Side {
+    // The index of this side's first place, and one past its last.
+    pub fn first(self) -> usize
+        ensures { λ r. ⌜ r ≡ firstIndex self ⌝ }
+    {
+        match self {
+            Side::Position => 0,
+            Side::Line => Table::POSITIONS as usize,
+        }
+    }
+
+    pub fn end(self) -> usize
+        ensures { λ r. ⌜ r ≡ endIndex self ⌝ }
+    {
+        match self {
+            Side::Position => Table::POSITIONS as usize,
+            Side::Line => Table::PLACES,
+        }
+    }
+
     // The row of this side in the timer table.
     pub fn index(self) -> u8
         ensures { λ r. ⌜ r ≡ sideIndex self ⌝ }
@@ -121,6 +147,16 @@ impl Side {
         match self {
             Side::Position => State::ParkWaiting,
             Side::Line => State::LineWaiting,
+        }
+    }
+
+    // The one state that this side has not.
+    pub fn missing(self) -> State
+        ensures { λ r. ⌜ r ≡ missingOn self ⌝ }
+    {
+        match self {
+            Side::Position => State::LineWaiting,
+            Side::Line => State::ParkWaiting,
         }
     }
 
@@ -181,7 +217,7 @@ impl Record {
     {
         Record {
             state: State::Free,
-            call: [0; 16],
+            call: [0; Table::CALL_OCTETS],
             connection: Connection(0),
             count: Invoke(0),
         }
@@ -193,7 +229,10 @@ impl Table {
 
     pub const LINES: u16 = 32;
 
-    pub const PLACES: usize = 96;
+    pub const PLACES: usize = (Table::POSITIONS + Table::LINES) as usize;
+
+    // The octets of a CallIdentifier.
+    pub const CALL_OCTETS: usize = 16;
 
     // The one empty table.
     pub fn empty() -> Table

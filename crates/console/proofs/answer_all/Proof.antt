@@ -1,5 +1,4 @@
 -- What is kept from turn to turn is the session and the two buffers; the turns are counted down.
--- Assumes nothing.
 use mathlib.Core.Path.{_≡_}
 use Prim.Native.Nat.{ℕ}
 use native.Mathlib.Omega.{arith}

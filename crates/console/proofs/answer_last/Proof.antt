@@ -1,5 +1,4 @@
 -- The count that is written lies within the buffer (`within`).
--- Assumes nothing.
 use mathlib.Core.Path.{sym}
 use lib.Seq.{length-take-le}
 use borrow.Author.Needs.{needs}

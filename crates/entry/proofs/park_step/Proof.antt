@@ -1,5 +1,4 @@
 -- A short buffer is left alone; otherwise the answer fits it (`on-short`), so it is written.
--- Assumes nothing.
 use mathlib.Core.Path.{_≡_, ap, _∙_}
 use mathlib.Core.List.{List}
 use Prim.Native.Nat.{ℕ, _≤_}

@@ -1,5 +1,4 @@
 -- By the contracts of the five calls.
--- Assumes nothing.
 use mathlib.Core.Path.{_∙_}
 use borrow.Author.Needs.{needs}
 use Rattle.events.proofs.act.Statement.{statement}

@@ -1,5 +1,4 @@
 -- The answer is by the contract of `accept`.
--- Assumes nothing.
 use borrow.Author.Needs.{needs}
 use Rattle.events.proofs.change.Statement.{statement}
 use Rattle.events.proofs.change.Tie as tie

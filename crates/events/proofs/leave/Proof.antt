@@ -1,5 +1,4 @@
 -- Each arm of the match is a clause of the definition, by the contracts of its calls.
--- Assumes nothing.
 use mathlib.Core.Path.{_∙_}
 use borrow.Author.Needs.{needs}
 use Rattle.events.proofs.leave.Statement.{statement}

@@ -1,5 +1,4 @@
 -- The end of the line is not before its start, and inside the text.
--- Assumes nothing.
 use Prim.Native.Nat.{_-_, _≤_}
 use lib.ListN.{length}
 use borrow.Author.Needs.{needs}

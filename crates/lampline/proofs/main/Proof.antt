@@ -1,5 +1,4 @@
 -- The room has as many octets as it is made of.
--- Assumes nothing.
 use mathlib.Core.Path.{sym}
 use Prim.Native.Nat.{ℕ}
 use lib.ListN.{length-replicate}

@@ -1,5 +1,4 @@
 -- What is printed of the room is no more than it has.
--- Assumes nothing.
 use mathlib.Core.Path.{sym}
 use lib.Seq.{length-take-le}
 use borrow.Author.Needs.{needs}

@@ -1,5 +1,4 @@
 -- Each line lies in the text, and the next one begins behind it.
--- Assumes nothing.
 use Prim.Native.Nat.{_-_}
 use lib.ListN.{length}
 use borrow.Author.Needs.{needs}

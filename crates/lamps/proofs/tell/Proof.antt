@@ -1,9 +1,9 @@
 -- The step is the table's own; the place of an accepted event has an index (`accepted-inside`).
--- Assumes nothing.
 use mathlib.Core.Path.{_≡_, sym, _∙_}
 use lib.ListN.{length, length-map}
 use borrow.Author.Tests.{eq-eqb, ne-eqb}
 use borrow.Author.Needs.{needs}
+use Rattle.table.specs.Places.{placeCount}
 use Rattle.lamps.proofs.Accepted.{Inside, accepted-inside}
 use Rattle.lamps.proofs.tell.Statement.{statement}
 use Rattle.lamps.proofs.tell.Tie as tie
@@ -15,8 +15,8 @@ single-step-requires c κs = search needs
 inside : (c : tie.After-single-step) → c .single-step .result .answer .number ≡ 0 → Inside (c .single-step .result .answer .place)
 inside c number =
     let s = c .before .before .before in
-    let size : length (s .args .s .table .places) ≡ 96 = sym (length-map (s .args .s .table .places) _) ∙ s .good .0 .1 .1 .0 .1 .1 .0 .1 .0 .1 in
-    let ranks : length (s .args .s .table .ranks) ≡ 96 = sym (length-map (s .args .s .table .ranks) _) ∙ s .good .0 .1 .1 .0 .1 .1 .1 .0 .1 .0 .1 in
+    let size : length (s .args .s .table .places) ≡ placeCount = sym (length-map (s .args .s .table .places) _) ∙ s .good .0 .1 .1 .0 .1 .1 .0 .1 .0 .1 in
+    let ranks : length (s .args .s .table .ranks) ≡ placeCount = sym (length-map (s .args .s .table .ranks) _) ∙ s .good .0 .1 .1 .0 .1 .1 .1 .0 .1 .0 .1 in
     accepted-inside (s .args .s .table) (s .args .e) (c .single-step .result) (size, ranks) (c .single-step .ensures) number
 
 sub-i : tie.Need-sub-i
@@ -29,10 +29,10 @@ mul-was : tie.Need-mul-was
 mul-was c = search needs
 
 element-copy-out-was : tie.Need-element-copy-out-was
-element-copy-out-was c = inside (c .before .before .before .before .before) (c .before .if1 .taken) .to-96
+element-copy-out-was c = inside (c .before .before .before .before .before) (c .before .if1 .taken) .to-placeCount
 
 notify-requires : tie.Need-notify-requires
-notify-requires c κs = inside (c .before .before .before .before .before .before) (c .before .before .if1 .taken) .to-96
+notify-requires c κs = inside (c .before .before .before .before .before .before) (c .before .before .if1 .taken) .to-placeCount
 
 none-requires : tie.Need-none-requires
 none-requires c κs = search needs

@@ -1,5 +1,4 @@
 -- What the event leaves there is written where its number is 0.
--- Assumes nothing.
 use mathlib.Core.Path.{ap, _∙_}
 use borrow.Author.Tests.{eq-eqb, ne-eqb}
 use Rattle.events.specs.Act.{acted}

@@ -1,5 +1,4 @@
 -- Each arm of the match is a clause of the definitions; an index that was found is one of the table's.
--- Assumes nothing.
 use mathlib.Core.Path.{refl}
 use borrow.Author.Needs.{needs}
 use Rattle.lent.proofs.act_found.Statement.{statement}

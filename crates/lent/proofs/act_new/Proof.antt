@@ -1,5 +1,4 @@
 -- A call that is held is refused; another goes to the chosen place, which is one of the table's (`chosen-room`).
--- Assumes nothing.
 use mathlib.Core.Path.{sym, refl, _∙_}
 use Rattle.image.proofs.Round.{fit-from}
 use Rattle.image.specs.Image.{tableFrom}

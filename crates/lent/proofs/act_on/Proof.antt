@@ -1,8 +1,8 @@
 -- By what the event looks for: each arm is a clause of `aimFor`.
--- Assumes nothing.
 use mathlib.Core.Path.{sym, refl, ap, _∙_}
 use Rattle.table.specs.declared.Table.{Table}
 use Rattle.table.specs.Search.{holds}
+use Rattle.table.specs.Places.{placeCount}
 use Rattle.table.proofs.Searches.{found-passes}
 use Rattle.image.specs.Image.{tableFrom}
 use Rattle.image.proofs.Round.{fit-from}
@@ -40,7 +40,7 @@ act-found-requires-2 c κs =
     let z = f .before .before .before .before .before .before .before in
     let s = z .args .image .now in
     let a = f .before .before .before .a .given .0 .0 in
-    (z .pre, λ i q. found-below (tableFrom s) a 96 i (sym (f .next-waiting .ensures) ∙ q))
+    (z .pre, λ i q. found-below (tableFrom s) a placeCount i (sym (f .next-waiting .ensures) ∙ q))
 
 enum-known-d : tie.Need-enum-known-d
 enum-known-d c = search needs

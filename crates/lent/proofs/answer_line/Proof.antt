@@ -1,15 +1,14 @@
 -- Where the image is read, the line at its table; otherwise 25.
--- Assumes nothing.
 use mathlib.Core.Path.{sym, _∙_}
 use borrow.Author.Needs.{needs}
 use Rattle.lent.proofs.answer_line.Statement.{statement}
 use Rattle.lent.proofs.answer_line.Tie as tie
 
-is-read-requires : tie.Need-is-read-requires
-is-read-requires c κs = search needs
+is-sound-image-requires : tie.Need-is-sound-image-requires
+is-sound-image-requires c κs = search needs
 
 step-line-requires : tie.Need-step-line-requires
-step-line-requires c κs = sym (c .before .before .is-read .ensures) ∙ c .before .if1 .taken
+step-line-requires c κs = sym (c .before .before .is-sound-image .ensures) ∙ c .before .if1 .taken
 
 only-number-requires : tie.Need-only-number-requires
 only-number-requires c κs = search needs
@@ -27,14 +26,14 @@ same-length-2 c = search needs
 
 returns-2 : tie.Need-returns-2
 returns-2 c =
-    let no = sym (c .before .before .is-read .ensures) ∙ c .before .if1 .left in
+    let no = sym (c .before .before .is-sound-image .ensures) ∙ c .before .if1 .left in
     (rw no (c .only-number .ensures), rw no)
 
 pub answer-line-spec : {M : Type 1} → statement M
 answer-line-spec =
     tie.close
     (tie.spec
-    is-read-requires
+    is-sound-image-requires
     step-line-requires
     only-number-requires
     same-length

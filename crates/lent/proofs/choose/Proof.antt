@@ -1,9 +1,8 @@
 -- The test is the definition's; a proposed place has an index (`number-of-side`).
--- Assumes nothing.
 use mathlib.Core.Path.{sym, _∙_}
 use Rattle.laws.proofs.Bools.{and-left}
 use Rattle.table.specs.Places.{isOf, sideOf}
-use Rattle.step.proofs.Aims.{number-of-side, less-one}
+use Rattle.table.proofs.Sides.{less-one, number-of-side}
 use borrow.Author.Needs.{needs}
 use Rattle.lent.proofs.choose.Statement.{statement}
 use Rattle.lent.proofs.choose.Tie as tie
@@ -20,8 +19,8 @@ sub-t6 c =
 cast-t7 : tie.Need-cast-t7
 cast-t7 c = search needs
 
-lowest-in-requires : tie.Need-lowest-in-requires
-lowest-in-requires c κs = search needs
+lowest-free-requires : tie.Need-lowest-free-requires
+lowest-free-requires c κs = search needs
 
 returns : tie.Need-returns
 returns c =
@@ -32,8 +31,8 @@ returns c =
 returns-2 : tie.Need-returns-2
 returns-2 c =
     let no = sym (c .before .before .is-proposed .ensures) ∙ c .before .if1 .left in
-    rw no (c .lowest-in .ensures)
+    rw no (c .lowest-free .ensures)
 
 pub choose-spec : {M : Type 1} → statement M
 choose-spec =
-    tie.close (tie.spec is-proposed-requires sub-t6 cast-t7 lowest-in-requires returns returns-2)
+    tie.close (tie.spec is-proposed-requires sub-t6 cast-t7 lowest-free-requires returns returns-2)

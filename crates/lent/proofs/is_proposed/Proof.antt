@@ -1,10 +1,9 @@
 -- A place of the side has an index of the table (`number-of-side`); the two tests are the definition's.
--- Assumes nothing.
 use mathlib.Core.Path.{_≡_, ap, _∙_}
 use mathlib.Core.Bool.{true, false}
 use native.Mathlib.Omega.{arith}
 use Rattle.table.specs.Places.{isFree, isOf, sideOf}
-use Rattle.step.proofs.Aims.{number-of-side, less-one}
+use Rattle.table.proofs.Sides.{less-one, number-of-side}
 use borrow.Author.Needs.{needs}
 use Rattle.lent.proofs.is_proposed.Statement.{statement}
 use Rattle.lent.proofs.is_proposed.Tie as tie

@@ -1,6 +1,5 @@
 -- The places are written, and the test of what is written is the test of the table (`test-of-image`); the event at a sound table's image, read back,
 -- is the step at the table (`step-back`).
--- Assumes nothing.
 use mathlib.Core.Path.{_≡_, sym, _∙_}
 use lib.ListN.{length}
 use Rattle.table.specs.Sound.{isSound}

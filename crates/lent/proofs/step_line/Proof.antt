@@ -1,5 +1,4 @@
 -- The line is read, and its event stepped; at the image of a sound table that is the machine's step (`line-kept`).
--- Assumes nothing.
 use mathlib.Core.Path.{_≡_, sym, ap, _∙_}
 use mathlib.Core.Bool.{true, false}
 use native.Mathlib.Omega.{arith}

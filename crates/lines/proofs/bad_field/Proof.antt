@@ -1,5 +1,4 @@
 -- By the contract of `reading_of`, through the fault.
--- Assumes nothing.
 use mathlib.Core.Path.{ap, _∙_}
 use borrow.Author.Needs.{needs}
 use Rattle.lines.specs.declared.Reading.{Reading}

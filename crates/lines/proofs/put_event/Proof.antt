@@ -1,5 +1,4 @@
 -- The seven texts make one (`tab-then`), and there is room for each of them since there is room for the line.
--- Assumes nothing.
 use mathlib.Core.Path.{_≡_}
 use native.Mathlib.Omega.{arith}
 use lib.ListN.{length}

@@ -1,5 +1,4 @@
 -- The four texts make one (`tab-then-and`), and there is room for each of them since there is room for all four.
--- Assumes nothing.
 use native.Mathlib.Omega.{arith}
 use borrow.Author.Needs.{needs}
 use Rattle.lines.specs.Numbers.{decimal}

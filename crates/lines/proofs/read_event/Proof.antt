@@ -1,5 +1,4 @@
 -- Both fields by the contract of `reading_of`, the number through the fault.
--- Assumes nothing.
 use mathlib.Core.Path.{ap, _∙_}
 use borrow.Author.Needs.{needs}
 use Rattle.lines.specs.declared.Reading.{Reading}

@@ -1,6 +1,5 @@
 -- Where a field is found, the answer of the line is that of its rest from there on, with the values so far (`on1` to `on7`). Each refusal
 -- is one step from there, and the event is the last.
--- Assumes nothing.
 use mathlib.Core.Path.{_≡_, sym, ap, _∙_}
 use mathlib.Core.List.{List}
 use Prim.Native.Nat.{ℕ, _≤_}

@@ -1,5 +1,4 @@
 -- The sum of the digits is the length of the four fields, and that is small, so that no part of the sum runs over.
--- Assumes nothing.
 use native.Mathlib.Omega.{arith}
 use Rattle.events.specs.declared.message.Sent.{Sent}
 use Rattle.lines.proofs.Lengths.{length-sent, sent-few}

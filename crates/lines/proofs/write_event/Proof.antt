@@ -1,5 +1,4 @@
 -- The test is the definition's.
--- Assumes nothing.
 use native.Mathlib.Omega.{arith}
 use lib.ListN.{length}
 use borrow.Author.Needs.{needs}

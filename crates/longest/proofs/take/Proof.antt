@@ -1,5 +1,4 @@
 -- The length that is offered fits the array: no answer at an image has a longer line (`on-short`).
--- Assumes nothing.
 use mathlib.Core.Path.{sym, ap}
 use Prim.Native.Nat.{_≤_}
 use native.Mathlib.Omega.{arith}

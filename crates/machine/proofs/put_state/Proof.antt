@@ -1,5 +1,4 @@
 -- Nothing is kept from kind to kind; the kinds that are left grow fewer.
--- Assumes nothing.
 use Prim.Native.Nat.{_-_}
 use native.Mathlib.Omega.{arith}
 use borrow.Author.Needs.{needs}

@@ -1,5 +1,4 @@
 -- The fields by the contracts of the seven calls, the latest first.
--- Assumes nothing.
 use borrow.Author.Needs.{needs}
 use Rattle.events.proofs.answers.accept.Statement.{statement}
 use Rattle.events.proofs.answers.accept.Tie as tie

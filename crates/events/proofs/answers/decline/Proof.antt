@@ -1,5 +1,4 @@
 -- The message and the number by the contracts of the calls, the latest first.
--- Assumes nothing.
 use borrow.Author.Needs.{needs}
 use Rattle.events.proofs.answers.decline.Statement.{statement}
 use Rattle.events.proofs.answers.decline.Tie as tie

@@ -1,5 +1,4 @@
 -- The two messages by the contract of `sent`.
--- Assumes nothing.
 use borrow.Author.Needs.{needs}
 use Rattle.events.proofs.answers.say.Statement.{statement}
 use Rattle.events.proofs.answers.say.Tie as tie

@@ -1,5 +1,4 @@
 -- A key decides the definition's tests; any other number passes none.
--- Assumes nothing.
 use borrow.Author.Tests.{ne-eqb}
 use Rattle.events.proofs.rule.rule_of.Statement.{statement}
 use Rattle.events.proofs.rule.rule_of.Tie as tie

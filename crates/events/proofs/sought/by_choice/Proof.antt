@@ -1,5 +1,4 @@
 -- A key decides the definition's tests; any other choice passes none.
--- Assumes nothing.
 use borrow.Author.Tests.{ne-eqb}
 use Rattle.events.proofs.sought.by_choice.Statement.{statement}
 use Rattle.events.proofs.sought.by_choice.Tie as tie

@@ -1,5 +1,4 @@
 -- Each arm of the match is a clause of the definition, by the contract of its call.
--- Assumes nothing.
 use borrow.Author.Needs.{needs}
 use Rattle.events.proofs.sought.by_signal.Statement.{statement}
 use Rattle.events.proofs.sought.by_signal.Tie as tie

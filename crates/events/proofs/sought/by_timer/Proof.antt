@@ -1,5 +1,4 @@
 -- The test is the definition's.
--- Assumes nothing.
 use mathlib.Core.Path.{sym, _∙_}
 use borrow.Author.Needs.{needs}
 use Rattle.events.proofs.sought.by_timer.Statement.{statement}

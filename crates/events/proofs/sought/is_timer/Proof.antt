@@ -1,5 +1,4 @@
 -- A key is one of the three; any other number is none of them.
--- Assumes nothing.
 use borrow.Author.Tests.{ne-eqb}
 use Rattle.events.proofs.sought.is_timer.Statement.{statement}
 use Rattle.events.proofs.sought.is_timer.Tie as tie

@@ -1,5 +1,4 @@
 -- By the contracts of the two calls.
--- Assumes nothing.
 use mathlib.Core.Path.{_∙_}
 use borrow.Author.Needs.{needs}
 use Rattle.events.proofs.sought.sought_of.Statement.{statement}

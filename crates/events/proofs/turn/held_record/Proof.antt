@@ -1,5 +1,4 @@
 -- The two fields by the contracts of the calls, the latest first.
--- Assumes nothing.
 use borrow.Author.Needs.{needs}
 use Rattle.events.proofs.turn.held_record.Statement.{statement}
 use Rattle.events.proofs.turn.held_record.Tie as tie

@@ -1,5 +1,4 @@
 -- The test is the definition's.
--- Assumes nothing.
 use borrow.Author.Needs.{needs}
 use Rattle.events.proofs.turn.if_outstanding.Statement.{statement}
 use Rattle.events.proofs.turn.if_outstanding.Tie as tie

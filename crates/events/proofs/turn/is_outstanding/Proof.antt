@@ -1,5 +1,4 @@
 -- The two numbers compared are the definition's.
--- Assumes nothing.
 use mathlib.Core.Path.{refl}
 use Rattle.events.proofs.turn.is_outstanding.Statement.{statement}
 use Rattle.events.proofs.turn.is_outstanding.Tie as tie

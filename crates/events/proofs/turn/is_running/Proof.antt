@@ -1,5 +1,4 @@
 -- By the contracts of the two calls.
--- Assumes nothing.
 use borrow.Author.Needs.{needs}
 use Rattle.events.proofs.turn.is_running.Statement.{statement}
 use Rattle.events.proofs.turn.is_running.Tie as tie

@@ -1,5 +1,4 @@
 -- The two tests are the definition's.
--- Assumes nothing.
 use borrow.Author.Tests.{eq-eqb, ne-eqb}
 use borrow.Author.Needs.{needs}
 use Rattle.events.proofs.turn.on_expiry.Statement.{statement}

@@ -1,5 +1,4 @@
 -- The second message by the contract of `to_picker`.
--- Assumes nothing.
 use borrow.Author.Needs.{needs}
 use Rattle.events.proofs.turn.on_time_out.Statement.{statement}
 use Rattle.events.proofs.turn.on_time_out.Tie as tie

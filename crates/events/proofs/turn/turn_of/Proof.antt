@@ -1,5 +1,4 @@
 -- Each arm of the match is a clause of the definition; a signal at a free record is refused.
--- Assumes nothing.
 use mathlib.Core.Path.{sym, _∙_}
 use borrow.Author.Needs.{needs}
 use Rattle.events.proofs.turn.turn_of.Statement.{statement}

@@ -1,5 +1,4 @@
 -- Each arm of the match is a clause of the definition, by the contracts of its calls; kind 7 does what kind 8 does (`error-in-release`).
--- Assumes nothing.
 use mathlib.Core.Path.{ap, sym, _∙_}
 use borrow.Author.Needs.{needs}
 use Rattle.events.specs.Turn.{stageOf, isOutstanding, released}

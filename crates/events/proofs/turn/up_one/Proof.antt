@@ -1,5 +1,4 @@
 -- The value of the sum that wraps.
--- Assumes nothing.
 use borrow.Author.Needs.{needs}
 use Rattle.events.proofs.turn.up_one.Statement.{statement}
 use Rattle.events.proofs.turn.up_one.Tie as tie

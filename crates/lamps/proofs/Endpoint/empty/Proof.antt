@@ -1,5 +1,4 @@
 -- Both parts are empty.
--- Assumes nothing.
 use borrow.Author.Needs.{needs}
 use Rattle.lamps.proofs.Endpoint.empty.Statement.{statement}
 use Rattle.lamps.proofs.Endpoint.empty.Tie as tie

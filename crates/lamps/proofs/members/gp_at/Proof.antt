@@ -1,10 +1,10 @@
 -- The two tests are those of the definition, and the place has an index.
--- Assumes nothing.
 use mathlib.Core.Path.{_≡_}
 use mathlib.Core.Bool.{true, false}
 use native.Mathlib.Omega.{arith}
-use Rattle.step.proofs.Aims.{less-one}
+use Rattle.table.proofs.Sides.{less-one}
 use borrow.Author.Needs.{needs}
+use Rattle.table.specs.Places.{placeCount}
 use Rattle.lamps.specs.Members.{isMember, isOneTo}
 use Rattle.lamps.proofs.Numbers.{one-to}
 use Rattle.lamps.proofs.members.gp_at.Statement.{statement}
@@ -22,8 +22,8 @@ is-one-to-requires-2 c κs = search needs
 sub-i : tie.Need-sub-i
 sub-i c =
     let s = c .before .before .before .before .before .before .args in
-    let held : isOneTo 96 (s .p .0) ≡ true = cc in
-    one-to 96 (s .p .0) held .0
+    let held : isOneTo placeCount (s .p .0) ≡ true = cc in
+    one-to placeCount (s .p .0) held .0
 
 cast-i : tie.Need-cast-i
 cast-i c = search needs
@@ -34,8 +34,8 @@ mul-x c = search needs
 element-copy-out-x : tie.Need-element-copy-out-x
 element-copy-out-x c =
     let s = c .before .before .before .before .before .before .args in
-    let held : isOneTo 96 (s .p .0) ≡ true = cc in
-    omega (arith, one-to 96 (s .p .0) held)
+    let held : isOneTo placeCount (s .p .0) ≡ true = cc in
+    omega (arith, one-to placeCount (s .p .0) held)
 
 state-of-requires : tie.Need-state-of-requires
 state-of-requires c κs =
@@ -47,14 +47,14 @@ returns : tie.Need-returns
 returns c =
     let s = c .before .before .before .before .before .before .before .before .args in
     let who : isMember (s .member) ≡ true = cc in
-    let held : isOneTo 96 (s .p .0) ≡ true = cc in
-    rw (who, held, ← less-one (s .p .0) (one-to 96 (s .p .0) held .0)) (c .state-of .ensures)
+    let held : isOneTo placeCount (s .p .0) ≡ true = cc in
+    rw (who, held, ← less-one (s .p .0) (one-to placeCount (s .p .0) held .0)) (c .state-of .ensures)
 
 returns-2 : tie.Need-returns-2
 returns-2 c =
     let s = c .before .before .before .before .before .args in
     let who : isMember (s .member) ≡ true = cc in
-    let none : isOneTo 96 (s .p .0) ≡ false = cc in
+    let none : isOneTo placeCount (s .p .0) ≡ false = cc in
     rw (who, none)
 
 returns-3 : tie.Need-returns-3

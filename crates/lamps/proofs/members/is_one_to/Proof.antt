@@ -1,5 +1,4 @@
 -- The two tests are those of the definition.
--- Assumes nothing.
 use borrow.Author.Tests.{le-leb, lt-leb}
 use Rattle.lamps.proofs.members.is_one_to.Statement.{statement}
 use Rattle.lamps.proofs.members.is_one_to.Tie as tie

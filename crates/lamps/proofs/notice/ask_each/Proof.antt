@@ -1,5 +1,4 @@
 -- The request is pending to all at the place, and its number is the last.
--- Assumes nothing.
 use borrow.Author.Needs.{needs}
 use Rattle.lamps.proofs.notice.ask_each.Statement.{statement}
 use Rattle.lamps.proofs.notice.ask_each.Tie as tie

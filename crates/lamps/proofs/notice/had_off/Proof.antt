@@ -1,5 +1,4 @@
 -- By the number of the state.
--- Assumes nothing.
 use borrow.Author.Needs.{needs}
 use Rattle.lamps.proofs.notice.had_off.Statement.{statement}
 use Rattle.lamps.proofs.notice.had_off.Tie as tie

@@ -1,5 +1,4 @@
 -- The two tests are those of the definition.
--- Assumes nothing.
 use borrow.Author.Tests.{eq-eqb, ne-eqb}
 use Rattle.lamps.proofs.notice.is_over.Statement.{statement}
 use Rattle.lamps.proofs.notice.is_over.Tie as tie

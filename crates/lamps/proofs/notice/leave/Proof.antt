@@ -1,5 +1,4 @@
 -- Nothing is sent.
--- Assumes nothing.
 use borrow.Author.Needs.{needs}
 use Rattle.lamps.proofs.notice.leave.Statement.{statement}
 use Rattle.lamps.proofs.notice.leave.Tie as tie

@@ -1,5 +1,4 @@
 -- By what is asked.
--- Assumes nothing.
 use mathlib.Core.Path.{sym, _∙_}
 use borrow.Author.Needs.{needs}
 use Rattle.lamps.proofs.notice.notify.Statement.{statement}

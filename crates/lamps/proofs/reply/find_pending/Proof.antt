@@ -1,5 +1,4 @@
 -- What is left to look at, from the index on, has the first that is pending.
--- Assumes nothing.
 use mathlib.Core.Path.{_≡_, refl, sym, _∙_}
 use mathlib.Core.Bool.{true, false}
 use Prim.Native.Nat.{_-_, _≤_}
@@ -7,6 +6,7 @@ use native.Mathlib.Omega.{arith}
 use lib.ListN.{length, drop, getD}
 use Rattle.laws.proofs.Runs.{length-mapped}
 use borrow.Author.Needs.{needs}
+use Rattle.table.specs.Places.{placeCount}
 use Rattle.lamps.specs.Members.{blankLamp}
 use Rattle.lamps.specs.Reply.{isPending, findPending}
 use Rattle.lamps.proofs.Pending.{pending-at, pending-end}
@@ -14,12 +14,12 @@ use Rattle.lamps.proofs.reply.find_pending.Statement.{statement}
 use Rattle.lamps.proofs.reply.find_pending.Tie as tie
 
 abbrev Inv-loop : tie.InvT-loop
-Inv-loop r l i₀ i = (i ≤ 96) × (findPending r 0 (l .places) ≡ findPending r i (drop i (l .places)))
+Inv-loop r l i₀ i = (i ≤ placeCount) × (findPending r 0 (l .places) ≡ findPending r i (drop i (l .places)))
 
 abbrev μ-loop : tie.MeasureT-loop
-μ-loop r l i₀ i = 96 - i
+μ-loop r l i₀ i = placeCount - i
 
-size : (c : tie.At-loop Inv-loop μ-loop) → length (c .before .args .t1 .places) ≡ 96
+size : (c : tie.At-loop Inv-loop μ-loop) → length (c .before .args .t1 .places) ≡ placeCount
 size c = search length-mapped
 
 loop-holds : tie.Need-loop-holds Inv-loop μ-loop

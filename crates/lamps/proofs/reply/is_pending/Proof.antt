@@ -1,5 +1,4 @@
 -- The member has still to reply, and the request is the one named.
--- Assumes nothing.
 use borrow.Author.Needs.{needs}
 use Rattle.lamps.proofs.reply.is_pending.Statement.{statement}
 use Rattle.lamps.proofs.reply.is_pending.Tie as tie

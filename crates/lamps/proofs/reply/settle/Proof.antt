@@ -1,10 +1,10 @@
 -- The tests are those of the definition; what is found is an index of the lamps (`pending-inside`).
--- Assumes nothing.
 use mathlib.Core.Path.{_≡_, sym, _∙_}
 use mathlib.Core.Bool.{true, false}
 use lib.ListN.{length}
 use Rattle.laws.proofs.Runs.{length-mapped}
 use borrow.Author.Needs.{needs}
+use Rattle.table.specs.Places.{placeCount}
 use Rattle.lamps.specs.Members.{isMember}
 use Rattle.lamps.proofs.Numbers.{one-to}
 use Rattle.lamps.proofs.Pending.{pending-hit}
@@ -32,7 +32,7 @@ settle-at-requires c κs =
     let start = k .before .before .before .before in
     let s = start .args in
     let who : isMember (s .r .member) ≡ true = cc in
-    let size : length (s .l .places) ≡ 96 = search length-mapped in
+    let size : length (s .l .places) ≡ placeCount = search length-mapped in
     let at = sym (k .find-pending .ensures) ∙ c .before .i .given .1 in
     (pending-hit (s .l) size (s .r) (c .before .i .given .0 .0) at .0, one-to 8 (s .r .member) who)
 

@@ -1,5 +1,4 @@
 -- The member is back in GP-Idle at the place, and its timer stops.
--- Assumes nothing.
 use borrow.Author.Needs.{needs}
 use Rattle.lamps.proofs.reply.settle_at.Statement.{statement}
 use Rattle.lamps.proofs.reply.settle_at.Tie as tie

@@ -1,5 +1,4 @@
 -- The slot is below 512: a side's index is 0 or 1, and a rank is an octet.
--- Assumes nothing.
 use native.Mathlib.Omega.{arith}
 use Rattle.table.proofs.Laws.{side-below}
 use borrow.Author.Needs.{needs}

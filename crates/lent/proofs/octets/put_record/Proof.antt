@@ -1,14 +1,14 @@
 -- The stores of a record are one run of its octets (`Fills`): what the types say of the call's length, and the length kept.
--- Assumes nothing.
 use mathlib.Core.Path.{_≡_, _∙_}
 use native.Mathlib.Omega.{arith}
 use lib.ListN.{length, length-set}
+use Rattle.table.specs.Places.{callOctets}
 use Rattle.image.proofs.Fills.{record-stores, length-octets}
 use borrow.Author.Needs.{needs}
 use Rattle.lent.proofs.octets.put_record.Statement.{statement}
 use Rattle.lent.proofs.octets.put_record.Tie as tie
 
-long : (c : tie.Start) → length (c .args .r .call) ≡ 16
+long : (c : tie.Start) → length (c .args .r .call) ≡ callOctets
 long c = search needs
 
 len : (c : tie.After-put-call) → length (c .put-call .last .0) ≡ length (c .before .before .before .before .before .args .out .now)
@@ -47,11 +47,14 @@ add-out-2 c = search needs
 slice-write-out-3 : tie.Need-slice-write-out-3
 slice-write-out-3 c = simp length-set (omega (arith, len (c .before .before)))
 
+add-out-3 : tie.Need-add-out-3
+add-out-3 c = search needs
+
 cast-out-3 : tie.Need-cast-out-3
 cast-out-3 c = search needs
 
-add-out-3 : tie.Need-add-out-3
-add-out-3 c = search needs
+add-out-4 : tie.Need-add-out-4
+add-out-4 c = search needs
 
 slice-write-out-4 : tie.Need-slice-write-out-4
 slice-write-out-4 c = simp length-set (omega (arith, len (c .before .before)))
@@ -59,8 +62,11 @@ slice-write-out-4 c = simp length-set (omega (arith, len (c .before .before)))
 cast-out-4 : tie.Need-cast-out-4
 cast-out-4 c = search needs
 
-add-out-4 : tie.Need-add-out-4
-add-out-4 c = search needs
+add-out-5 : tie.Need-add-out-5
+add-out-5 c = search needs
+
+add-out-6 : tie.Need-add-out-6
+add-out-6 c = search needs
 
 slice-write-out-5 : tie.Need-slice-write-out-5
 slice-write-out-5 c = simp length-set (omega (arith, len (c .before .before)))
@@ -91,12 +97,14 @@ put-record-spec =
     slice-write-out-2
     cast-out-2
     add-out-2
+    add-out-3
     slice-write-out-3
     cast-out-3
-    add-out-3
+    add-out-4
     slice-write-out-4
     cast-out-4
-    add-out-4
+    add-out-5
+    add-out-6
     slice-write-out-5
     same-length
     returns)

@@ -1,15 +1,14 @@
 -- A record is its four callees' results, field by field.
--- Assumes nothing.
 use Rattle.image.specs.Image.{recordFrom}
 use borrow.Author.Needs.{needs}
 use Rattle.lent.proofs.octets.read_record.Statement.{statement}
 use Rattle.lent.proofs.octets.read_record.Tie as tie
 
-shared-slice-read-state-of : tie.Need-shared-slice-read-state-of
-shared-slice-read-state-of c = search needs
+shared-slice-read-of : tie.Need-shared-slice-read-of
+shared-slice-read-of c = search needs
 
-state-of-requires : tie.Need-state-of-requires
-state-of-requires c κs = search needs
+of-requires : tie.Need-of-requires
+of-requires c κs = search needs
 
 add-read-call : tie.Need-add-read-call
 add-read-call c = search needs
@@ -33,7 +32,7 @@ returns : tie.Need-returns
 unfolding recordFrom
 returns c =
     λ i. record {
-      state = c .before .before .before .state-of .ensures i;
+      state = c .before .before .before .of .ensures i;
       call = c .before .before .read-call .ensures i;
       connection = record { 0 = c .before .read-pair .ensures i };
       count = record { 0 = c .read-pair2 .ensures i };
@@ -43,8 +42,8 @@ pub read-record-spec : {M : Type 1} → statement M
 read-record-spec =
     tie.close
     (tie.spec
-    shared-slice-read-state-of
-    state-of-requires
+    shared-slice-read-of
+    of-requires
     add-read-call
     read-call-requires
     add-read-pair

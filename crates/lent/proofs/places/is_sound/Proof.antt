@@ -1,5 +1,4 @@
 -- The test of a table's image is the test of the table (`test-of-image`).
--- Assumes nothing.
 use mathlib.Core.Path.{_∙_}
 use Rattle.image.proofs.Round.{test-of-image}
 use borrow.Author.Needs.{needs}

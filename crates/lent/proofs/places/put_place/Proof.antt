@@ -1,10 +1,9 @@
 -- The callees rerank the image and write the run.
--- Assumes nothing.
 use mathlib.Core.Path.{ap, _∙_}
 use mathlib.Core.List.{List}
 use Prim.Native.Nat.{ℕ, _*_}
 use lib.Seq.{sets}
-use Rattle.image.specs.Image.{octetsOf}
+use Rattle.image.specs.Image.{octetsOf, placeOctets}
 use borrow.Author.Needs.{needs}
 use Rattle.lent.proofs.places.put_place.Statement.{statement}
 use Rattle.lent.proofs.places.put_place.Tie as tie
@@ -27,7 +26,7 @@ returns c =
     let u = q .before .before .before .before in
     let s = u .before .before .before .args in
     q .put-record .ensures .0
-    ∙ ap (λ (l : List ℕ). sets l (s .i * 22) (octetsOf (s .r))) (u .rerank .ensures)
+    ∙ ap (λ (l : List ℕ). sets l (s .i * placeOctets) (octetsOf (s .r))) (u .rerank .ensures)
 
 pub put-place-spec : {M : Type 1} → statement M
 put-place-spec = tie.close (tie.spec rerank-requires mul-put-record put-record-requires same-length returns)

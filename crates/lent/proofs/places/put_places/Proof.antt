@@ -1,15 +1,14 @@
--- What stands so far is the run of the octets of the first i places; all 96 are as long as the buffer. That each call has 16 octets, which its type
--- says, is seen on the way.
--- Assumes nothing.
+-- What stands so far is the run of the octets of the first i places; all of them are as long as the buffer. That each call has its octets, which its
+-- type says, is seen on the way.
 use mathlib.Core.Path.{_≡_, refl, sym, ap, ap₂, _∙_}
 use mathlib.Core.List.{[], _∷_, _++_}
 use Prim.Native.Nat.{ℕ, _+_, _-_, _*_, _≤_, _<_}
 use native.Mathlib.Omega.{arith}
 use lib.ListN.{length, take, getD, length-append, length-set}
 use lib.Seq.{sets, take-all}
-use Rattle.table.specs.Places.{blank, recordAt}
+use Rattle.table.specs.Places.{placeCount, callOctets, blank, recordAt}
 use Rattle.laws.proofs.Runs.{length-mapped, length-snoc, sets-more, sets-on, sets-all}
-use Rattle.image.specs.Image.{octetsOf, octetsOfAll}
+use Rattle.image.specs.Image.{placeOctets, rankIndex, octetsOf, octetsOfAll}
 use Rattle.image.proofs.Fills.{all-more, call-long, calls-more}
 use borrow.Author.Needs.{needs}
 use Rattle.lent.proofs.places.put_places.Statement.{statement}
@@ -17,20 +16,20 @@ use Rattle.lent.proofs.places.put_places.Tie as tie
 
 abbrev Inv-loop : tie.InvT-loop
 Inv-loop out₀ t i₀ out i =
-    (i ≤ 96)
+    (i ≤ placeCount)
     × (length out ≡ length out₀)
-    × (length (octetsOfAll (take i (t .places)) (take i (t .ranks))) ≡ i * 22)
+    × (length (octetsOfAll (take i (t .places)) (take i (t .ranks))) ≡ i * placeOctets)
     × (out ≡ sets out₀ 0 (octetsOfAll (take i (t .places)) (take i (t .ranks))))
-    × ((k : ℕ) → k < i → length (recordAt t k .call) ≡ 16)
+    × ((k : ℕ) → k < i → length (recordAt t k .call) ≡ callOctets)
 
 abbrev μ-loop : tie.MeasureT-loop
-μ-loop out₀ t i₀ out i = 96 - i
+μ-loop out₀ t i₀ out i = placeCount - i
 
 -- a table by value has as many places and ranks as its type says
-size : (c : tie.At-loop Inv-loop μ-loop) → length (c .before .before .args .t1 .places) ≡ 96
+size : (c : tie.At-loop Inv-loop μ-loop) → length (c .before .before .args .t1 .places) ≡ placeCount
 size c = search length-mapped
 
-wide : (c : tie.At-loop Inv-loop μ-loop) → length (c .before .before .args .t1 .ranks) ≡ 96
+wide : (c : tie.At-loop Inv-loop μ-loop) → length (c .before .before .args .t1 .ranks) ≡ placeCount
 wide c = search needs
 
 loop-holds : tie.Need-loop-holds Inv-loop μ-loop
@@ -79,13 +78,13 @@ loop-again c =
     let f = octetsOfAll (take i s) (take i ranks) in
     let record-octets = octetsOf (getD s i blank) in
     let g = octetsOf (getD s i blank) ++ (rank ∷ []) in
-    let e : octetsOfAll (take (i + 1) s) (take (i + 1) ranks) ≡ f ++ g = all-more s ranks i blank (omega (arith, size k)) (omega (arith, wide k)) in
-    let there : i * 22 + 21 ≡ i * 22 + length record-octets = omega (arith, q .put-record .ensures .1) in (
+    let e : octetsOfAll (take (i + 1) s) (take (i + 1) ranks) ≡ f ++ g = all-more s ranks (omega (arith, size k, wide k)) i (omega (arith, size k)) in
+    let there : rankIndex i ≡ i * placeOctets + length record-octets = omega (arith, q .put-record .ensures .1) in (
       omega arith,
-      length-set (q .put-record .last .0) (i * 22 + 21) rank ∙ q .put-record .kept .0 ∙ k .loop .inv .1,
+      length-set (q .put-record .last .0) (rankIndex i) rank ∙ q .put-record .kept .0 ∙ k .loop .inv .1,
       omega (arith, ap length e, length-append f g, length-snoc record-octets rank, q .put-record .ensures .1, k .loop .inv .2),
-      sets-more record-octets (k .loop .out) (q .put-record .last .0) (i * 22) (i * 22 + 21) rank there (q .put-record .ensures .0)
-          ∙ sets-on f g o (k .loop .out) 0 (i * 22) (omega (arith, k .loop .inv .2)) (k .loop .inv .3)
+      sets-more record-octets (k .loop .out) (q .put-record .last .0) (i * placeOctets) (rankIndex i) rank there (q .put-record .ensures .0)
+          ∙ sets-on f g o (k .loop .out) 0 (i * placeOctets) (omega (arith, k .loop .inv .2)) (k .loop .inv .3)
           ∙ ap (sets o 0) (sym e),
       calls-more s i (k .loop .inv .4) (call-long (getD s i blank) (q .put-record .ensures .1)),
     )

@@ -1,5 +1,4 @@
 -- The test is the definition's, and each arm is the callee's.
--- Assumes nothing.
 use mathlib.Core.Path.{_≡_, sym, ap, _∙_}
 use mathlib.Core.Bool.{true}
 use lib.Dec.{eqb}
@@ -8,19 +7,19 @@ use borrow.Author.Tests.{eqb-true}
 use Rattle.laws.proofs.Bools.{and-left}
 use Rattle.table.specs.declared.Table.{Table}
 use Rattle.image.specs.declared.ReadImage.{ReadImage}
-use Rattle.image.specs.Image.{isRead}
+use Rattle.image.specs.Image.{isSoundImage, imageOctets}
 use borrow.Author.Needs.{needs}
 use Rattle.lent.proofs.places.read_image.Statement.{statement}
 use Rattle.lent.proofs.places.read_image.Tie as tie
 
-good : (c : tie.Then1) → isRead (c .before .before .before .args .image .now) ≡ true
-good c = sym (c .before .is-read .ensures) ∙ c .if1 .taken
+good : (c : tie.Then1) → isSoundImage (c .before .before .before .args .image .now) ≡ true
+good c = sym (c .before .is-sound-image .ensures) ∙ c .if1 .taken
 
-is-read-requires : tie.Need-is-read-requires
-is-read-requires c κs = search needs
+is-sound-image-requires : tie.Need-is-sound-image-requires
+is-sound-image-requires c κs = search needs
 
 read-places-requires : tie.Need-read-places-requires
-read-places-requires c κs = eqb-true _ 2112 (and-left (eqb (length (c .before .before .before .args .image .now)) 2112) _ (good c))
+read-places-requires c κs = eqb-true _ imageOctets (and-left (eqb (length (c .before .before .before .args .image .now)) imageOctets) _ (good c))
 
 refuse-requires : tie.Need-refuse-requires
 refuse-requires c κs = search needs
@@ -33,8 +32,8 @@ returns c =
 returns-2 : tie.Need-returns-2
 returns-2 c =
     let k = c .before in
-    c .refuse .ensures ∙ rw (sym (k .before .is-read .ensures) ∙ k .if1 .left)
+    c .refuse .ensures ∙ rw (sym (k .before .is-sound-image .ensures) ∙ k .if1 .left)
 
 pub read-image-spec : {M : Type 1} → statement M
 read-image-spec =
-    tie.close (tie.spec is-read-requires read-places-requires refuse-requires returns returns-2)
+    tie.close (tie.spec is-sound-image-requires read-places-requires refuse-requires returns returns-2)

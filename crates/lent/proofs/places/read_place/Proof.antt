@@ -1,5 +1,4 @@
 -- What stands at the place is its record (`record-at`).
--- Assumes nothing.
 use mathlib.Core.Path.{sym, _∙_}
 use Rattle.image.proofs.Round.{record-at}
 use borrow.Author.Needs.{needs}

@@ -1,43 +1,45 @@
--- The records so far and those of the rest are all, and so are the ranks.
--- Assumes nothing.
-use mathlib.Core.Path.{_≡_, refl, sym, ap, ap₂, _∙_}
-use mathlib.Core.List.{List, _∷_, _++_, append-nil}
-use Prim.Native.Nat.{ℕ, _+_, _-_, _*_, _≤_}
+-- The records and the ranks so far are those of the definition, index by index.
+use mathlib.Core.Path.{_≡_, refl, sym, ap, _∙_}
+use mathlib.Core.List.{List}
+use mathlib.Core.Logic.{⊎-elim}
+use Prim.Native.Nat.{ℕ, _+_, _-_, _*_, _≤_, _<_}
 use native.Mathlib.Omega.{arith}
-use lib.ListN.{length, take, length-set}
-use lib.Seq.{take-all, append-snoc}
-use borrow.Author.Needs.{needs}
+use lib.ListN.{length, getD, set, length-set}
+use lib.Seq.{getD-set-same, getD-set-other, ext-getD}
+use Rattle.laws.proofs.Bools.{equal-or}
 use Rattle.table.specs.declared.Record.{Record}
-use Rattle.image.specs.Image.{recordsFrom, ranksFrom, rankOctet}
-use Rattle.laws.proofs.Runs.{fill-more}
-use Rattle.image.proofs.Fills.{records-step, ranks-step}
+use Rattle.table.specs.Places.{placeCount, blank, recordAt, rankAt}
+use Rattle.image.specs.Image.{rankOctet, tableFrom}
+use Rattle.image.proofs.Round.{size-from, wide-from, record-at, rank-at}
+use borrow.Author.Needs.{needs}
 use Rattle.lent.proofs.places.read_places.Statement.{statement}
 use Rattle.lent.proofs.places.read_places.Tie as tie
 
 abbrev Inv-loop : tie.InvT-loop
 Inv-loop image places₀ ranks₀ i₀ places ranks i =
-    (i ≤ 96)
-    × (length places ≡ 96)
-    × (take i places ++ recordsFrom image (i * 22) (96 - i) ≡ recordsFrom image 0 96)
-    × (length ranks ≡ 96)
-    × (take i ranks ++ ranksFrom image (i * 22) (96 - i) ≡ ranksFrom image 0 96)
+    (i ≤ placeCount)
+    × (length places ≡ placeCount)
+    × ((k : ℕ) → k < i → getD places k blank ≡ recordAt (tableFrom image) k)
+    × (length ranks ≡ placeCount)
+    × ((k : ℕ) → k < i → getD ranks k 0 ≡ rankAt (tableFrom image) k)
 
 abbrev μ-loop : tie.MeasureT-loop
-μ-loop image places₀ ranks₀ i₀ places ranks i = 96 - i
+μ-loop image places₀ ranks₀ i₀ places ranks i = placeCount - i
 
-none : (l : List Record) (s : List ℕ) (i : ℕ) → l ++ recordsFrom s i 0 ≡ l
-unfolding recordsFrom
-none l s i = append-nil l
-
-no-ranks : (l s : List ℕ) (i : ℕ) → l ++ ranksFrom s i 0 ≡ l
-unfolding ranksFrom
-no-ranks l s i = append-nil l
+-- one element more
+set-more : {A : Type 0} (l : List A) (f : ℕ → A) (d : A) (i : ℕ) (x : A) → i < length l → ((k : ℕ) → k < i → getD l k d ≡ f k) → x ≡ f i
+    → (k : ℕ) → k < i + 1 → getD (set l i x) k d ≡ f k
+set-more l f d i x inside before here k h =
+    ⊎-elim
+    (λ same. rw same (getD-set-same l i x d inside ∙ here))
+    (λ other. getD-set-other l i k x d other ∙ before k (omega (arith, other)))
+    (equal-or k i)
 
 free-requires : tie.Need-free-requires Inv-loop μ-loop
 free-requires c κs = search needs
 
 loop-holds : tie.Need-loop-holds Inv-loop μ-loop
-loop-holds c = (omega arith, refl, refl, refl, refl)
+loop-holds c = (omega arith, refl, λ k h. absurd (omega (arith, h)), refl, λ k h. absurd (omega (arith, h)))
 
 mul-read-record : tie.Need-mul-read-record Inv-loop μ-loop
 mul-read-record c = omega arith
@@ -76,42 +78,22 @@ loop-again c =
     let s = at .before .before .before .args .image .now in
     let i = at .loop .i in
     let r = q .read-record .result in
-    let filled = take i (at .loop .places) in
-    let rest = recordsFrom s (i * 22 + 22) (96 - (i + 1)) in
-    let ranked = take i (at .loop .ranks) in
     let rank = rankOctet s i in
-    let k : (i + 1) * 22 ≡ i * 22 + 22 = omega arith in (
+    let inside : i < placeCount = omega arith in (
       omega arith,
       length-set (at .loop .places) i r ∙ at .loop .inv .1,
-      ap₂ (λ (l : List Record) (n : ℕ). l ++ recordsFrom s n (96 - (i + 1))) (fill-more (at .loop .places) i r (omega arith)) k
-          ∙ append-snoc filled r rest
-          ∙ ap (λ (x : Record). filled ++ (x ∷ rest)) (q .read-record .ensures)
-          ∙ ap (λ (l : List Record). filled ++ l) (sym (records-step s (i * 22) (96 - i) (96 - (i + 1)) (omega arith)))
-          ∙ at .loop .inv .2,
+      set-more (at .loop .places) (recordAt (tableFrom s)) blank i r (omega arith) (at .loop .inv .2) (q .read-record .ensures ∙ sym (record-at s i inside)),
       length-set (at .loop .ranks) i rank ∙ at .loop .inv .3,
-      ap₂ (λ (l : List ℕ) (n : ℕ). l ++ ranksFrom s n (96 - (i + 1))) (fill-more (at .loop .ranks) i rank (omega arith)) k
-          ∙ append-snoc ranked rank (ranksFrom s (i * 22 + 22) (96 - (i + 1)))
-          ∙ ap (λ (l : List ℕ). ranked ++ l) (sym (ranks-step s (i * 22) (96 - i) (96 - (i + 1)) (omega arith)))
-          ∙ at .loop .inv .4,
+      set-more (at .loop .ranks) (rankAt (tableFrom s)) 0 i rank (omega arith) (at .loop .inv .4) (sym (rank-at s i inside)),
     )
 
 returns : tie.Need-returns Inv-loop μ-loop
 returns c =
     let at = c .before in
     let s = at .before .before .before .args .image .now in
-    let i = at .loop .i in
-    let z : 96 - i ≡ 0 = omega arith in
-    let all : at .loop .places ≡ recordsFrom s 0 96 =
-    sym
-    (ap₂ (λ (l : List Record) (n : ℕ). l ++ recordsFrom s (i * 22) n) (take-all i (at .loop .places) (omega arith)) z
-    ∙ none (at .loop .places) s (i * 22))
-    ∙ at .loop .inv .2 in
-    let ranked : at .loop .ranks ≡ ranksFrom s 0 96 =
-    sym
-    (ap₂ (λ (l : List ℕ) (n : ℕ). l ++ ranksFrom s (i * 22) n) (take-all i (at .loop .ranks) (omega arith)) z
-    ∙ no-ranks (at .loop .ranks) s (i * 22))
-    ∙ at .loop .inv .4 in
-    λ j. record { places = all j; ranks = ranked j }
+    let places = ext-getD blank (at .loop .places) (tableFrom s .places) (at .loop .inv .1 ∙ sym (size-from s)) (λ k h. at .loop .inv .2 k (omega arith)) in
+    let ranks = ext-getD 0 (at .loop .ranks) (tableFrom s .ranks) (at .loop .inv .3 ∙ sym (wide-from s)) (λ k h. at .loop .inv .4 k (omega arith)) in
+    λ j. record { places = places j; ranks = ranks j }
 
 pub read-places-spec : {M : Type 1} → statement M
 read-places-spec =

@@ -1,5 +1,4 @@
 -- The callee's empty table in the struct.
--- Assumes nothing.
 use borrow.Author.Needs.{needs}
 use Rattle.lent.proofs.places.refuse.Statement.{statement}
 use Rattle.lent.proofs.places.refuse.Tie as tie

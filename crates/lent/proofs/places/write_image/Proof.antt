@@ -1,14 +1,14 @@
 -- The two tests are the definition's, in its order, and the callee writes the image.
--- Assumes nothing.
 use mathlib.Core.Path.{sym, _∙_}
 use borrow.Author.Tests.{eq-eqb, ne-eqb, not-true, not-false}
 use borrow.Author.Needs.{needs}
+use Rattle.image.specs.Image.{imageOctets}
 use Rattle.lent.proofs.places.write_image.Statement.{statement}
 use Rattle.lent.proofs.places.write_image.Tie as tie
 
 returns : tie.Need-returns
 returns c =
-    let short = ne-eqb _ 2112 (c .if1 .taken) in (rw short, rw short)
+    let short = ne-eqb _ imageOctets (c .if1 .taken) in (rw short, rw short)
 
 is-sound-requires : tie.Need-is-sound-requires
 is-sound-requires c κs = search needs
@@ -16,7 +16,7 @@ is-sound-requires c κs = search needs
 returns-2 : tie.Need-returns-2
 returns-2 c =
     let k = c .before in
-    let long = eq-eqb _ 2112 (k .before .if1 .left) in
+    let long = eq-eqb _ imageOctets (k .before .if1 .left) in
     let no = sym (k .is-sound .ensures) ∙ not-true (k .is-sound .result) (c .if2 .taken) in (rw (long, no), rw (long, no))
 
 put-places-requires : tie.Need-put-places-requires
@@ -30,7 +30,7 @@ returns-3 c =
     let q = c .before .before in
     let h = q .before .before in
     let k = h .before in
-    let long = eq-eqb _ 2112 (k .before .if1 .left) in
+    let long = eq-eqb _ imageOctets (k .before .if1 .left) in
     let yes = sym (k .is-sound .ensures) ∙ not-false (k .is-sound .result) (h .if2 .left) in
     (rw (long, yes), q .put-places .ensures .0 ∙ rw (long, yes))
 

@@ -1,5 +1,4 @@
 -- The test is the definition's.
--- Assumes nothing.
 use borrow.Author.Tests.{eq-eqb, ne-eqb}
 use Rattle.lent.proofs.ranks.held.Statement.{statement}
 use Rattle.lent.proofs.ranks.held.Tie as tie

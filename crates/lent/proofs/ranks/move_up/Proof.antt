@@ -1,5 +1,4 @@
 -- The test is the definition's.
--- Assumes nothing.
 use borrow.Author.Tests.{lt-ltb, le-ltb}
 use borrow.Author.Needs.{needs}
 use Rattle.lent.proofs.ranks.move_up.Statement.{statement}

@@ -1,17 +1,16 @@
 -- Each of the four ways is a clause of the definition. A side has at most 96 calls, and so one more has a rank that is an octet.
--- Assumes nothing.
-use mathlib.Core.Path.{_≡_, sym, ap₂, _∙_}
+use mathlib.Core.Path.{_≡_, sym, ap, _∙_}
 use Prim.Native.Nat.{_*_}
 use native.Mathlib.Omega.{arith}
 use borrow.Author.Tests.{eq-eqb, ne-eqb, not-true, not-false}
 use Rattle.table.specs.declared.Side.{Side}
-use Rattle.table.specs.Places.{sideAt}
+use Rattle.table.specs.Places.{sideAt, placeCount}
 use Rattle.table.specs.Ranks.{callsOn}
 use Rattle.table.specs.Marks.{ofSide}
 use Rattle.table.proofs.RankLaws.{calls-few}
 use Rattle.table.proofs.MarkLaws.{side-calls}
 use Rattle.image.specs.declared.ranks.Calls.{Calls}
-use Rattle.image.specs.Image.{tableFrom}
+use Rattle.image.specs.Image.{placeStart, tableFrom}
 use Rattle.image.proofs.Round.{size-from}
 use Rattle.image.proofs.PlaceLaws.{free-octet}
 use borrow.Author.Needs.{needs}
@@ -19,14 +18,12 @@ use Rattle.lent.proofs.ranks.rerank.Statement.{statement}
 use Rattle.lent.proofs.ranks.rerank.Tie as tie
 
 -- the calls of the place's side
-calls : (c : tie.After-of-side) → let s = c .before .before .before .before .before .before .before .before .before .args in
-    c .of-side .result ≡ callsOn (tableFrom (s .image .now)) (sideAt (s .i))
+calls : (c : tie.After-calls-of) → let s = c .before .before .before .before .before .before .before .before .args in
+    c .calls-of .result ≡ callsOn (tableFrom (s .image .now)) (sideAt (s .i))
 calls c =
-    let at = c .before .before .before .before .before .before .before in
+    let at = c .before .before .before .before .before .before in
     let s = at .before .before .args in
-    c .of-side .ensures
-    ∙ ap₂ (λ (a : Side) (n : Calls). ofSide a (n .positions) (n .lines)) (at .at .ensures) (c .before .calls-in .ensures)
-    ∙ side-calls (tableFrom (s .image .now)) (sideAt (s .i))
+    c .calls-of .ensures ∙ ap (callsOn (tableFrom (s .image .now))) (at .at .ensures)
 
 mul-at : tie.Need-mul-at
 mul-at c = search needs
@@ -40,16 +37,13 @@ slice-read-if1 c = search needs
 is-free-requires : tie.Need-is-free-requires
 is-free-requires c κs = search needs
 
-calls-in-requires : tie.Need-calls-in-requires
-calls-in-requires c κs = search needs
-
-of-side-requires : tie.Need-of-side-requires
-of-side-requires c κs = search needs
+calls-of-requires : tie.Need-calls-of-requires
+calls-of-requires c κs = search needs
 
 add-image : tie.Need-add-image
 add-image c =
-    let s = c .before .before .before .before .before .before .before .before .before .args in
-    omega (arith, calls c, calls-few (tableFrom (s .image .now)) (sideAt (s .i)), size-from (s .image .now) 0 96)
+    let s = c .before .before .before .before .before .before .before .before .args in
+    omega (arith, calls c, calls-few (tableFrom (s .image .now)) (sideAt (s .i)), size-from (s .image .now))
 
 add-image-2 : tie.Need-add-image-2
 add-image-2 c = search needs
@@ -80,17 +74,17 @@ same-length c = search needs
 
 returns : tie.Need-returns
 returns c =
-    let k = c .before .before .before .before .before in
+    let k = c .before .before .before .before in
     let s = k .before .before .before .before .args in
-    let was = free-octet (s .image .now) (s .i * 22) ∙ eq-eqb _ 0 (k .if1 .taken) in
-    let is = sym (c .before .before .before .before .is-free .ensures) ∙ not-true _ (c .before .before .before .if2 .taken) in
+    let was = free-octet (s .image .now) (placeStart (s .i)) ∙ eq-eqb _ 0 (k .if1 .taken) in
+    let is = sym (c .before .before .before .is-free .ensures) ∙ not-true _ (c .before .before .if2 .taken) in
     rw (was, is, calls c)
 
 returns-2 : tie.Need-returns-2
 returns-2 c =
     let k = c .before .before in
     let s = k .before .before .before .before .args in
-    let was = free-octet (s .image .now) (s .i * 22) ∙ eq-eqb _ 0 (k .if1 .taken) in
+    let was = free-octet (s .image .now) (placeStart (s .i)) ∙ eq-eqb _ 0 (k .if1 .taken) in
     let is = sym (c .before .is-free .ensures) ∙ not-false _ (c .if2 .left) in
     rw (was, is)
 
@@ -103,7 +97,7 @@ returns-3 c =
     let f = u .before .before .before in
     let k = f .before .before in
     let s = k .before .before .before .before .args in
-    let was = free-octet (s .image .now) (s .i * 22) ∙ ne-eqb _ 0 (k .if1 .left) in
+    let was = free-octet (s .image .now) (placeStart (s .i)) ∙ ne-eqb _ 0 (k .if1 .left) in
     let is = sym (f .before .is-free2 .ensures) ∙ f .if3 .taken in
     rw (was, is) (rw (u .close-up .ensures, k .before .before .at .ensures))
 
@@ -111,7 +105,7 @@ returns-4 : tie.Need-returns-4
 returns-4 c =
     let k = c .before .before in
     let s = k .before .before .before .before .args in
-    let was = free-octet (s .image .now) (s .i * 22) ∙ ne-eqb _ 0 (k .if1 .left) in
+    let was = free-octet (s .image .now) (placeStart (s .i)) ∙ ne-eqb _ 0 (k .if1 .left) in
     let is = sym (c .before .is-free2 .ensures) ∙ c .if3 .left in
     rw (was, is)
 
@@ -123,8 +117,7 @@ rerank-spec =
     at-requires
     slice-read-if1
     is-free-requires
-    calls-in-requires
-    of-side-requires
+    calls-of-requires
     add-image
     add-image-2
     slice-write-image

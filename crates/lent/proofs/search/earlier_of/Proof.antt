@@ -1,5 +1,4 @@
 -- What was found before has the lower rank octet, or this place has.
--- Assumes nothing.
 use native.Mathlib.Omega.{arith}
 use borrow.Author.Tests.{lt-ltb, le-ltb}
 use Rattle.image.proofs.Round.{rank-at}

@@ -1,5 +1,4 @@
 -- The callee's contract; a call by value has sixteen octets.
--- Assumes nothing.
 use borrow.Author.Needs.{needs}
 use Rattle.lent.proofs.search.find_call.Statement.{statement}
 use Rattle.lent.proofs.search.find_call.Tie as tie

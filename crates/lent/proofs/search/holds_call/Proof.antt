@@ -1,11 +1,11 @@
 -- The call is compared with all of the octets given (`whole-call`), and the state octet is 0 where the place is free.
--- Assumes nothing.
 use mathlib.Core.Path.{_≡_, sym, ap, _∙_}
 use Prim.Native.Nat.{_+_, _*_}
 use lib.ListN.{take, drop}
 use Rattle.table.specs.Search.{sameCall}
 use Rattle.image.proofs.Looks.{holds-same, holds-other, whole-call}
 use borrow.Author.Needs.{needs}
+use Rattle.image.specs.Image.{placeOctets}
 use Rattle.lent.proofs.search.holds_call.Statement.{statement}
 use Rattle.lent.proofs.search.holds_call.Tie as tie
 
@@ -24,8 +24,8 @@ shared-slice-read-result c = search needs
 abbrev first : tie.After-same-call → tie.Start
 first c = c .before .before .before
 
-agrees : (c : tie.After-same-call) → c .same-call .result ≡ sameCall (take 16 (drop (first c .args .i * 22 + 1) (first c .args .image .now))) (first c .args .call .now)
-agrees c = c .same-call .ensures ∙ ap (sameCall (take 16 (drop (first c .args .i * 22 + 1) (first c .args .image .now)))) (whole-call (first c .args .call .now) (first c .pre .2))
+agrees : (c : tie.After-same-call) → c .same-call .result ≡ sameCall (take 16 (drop (first c .args .i * placeOctets + 1) (first c .args .image .now))) (first c .args .call .now)
+agrees c = c .same-call .ensures ∙ ap (sameCall (take 16 (drop (first c .args .i * placeOctets + 1) (first c .args .image .now)))) (whole-call (first c .args .call .now) (first c .pre .2))
 
 returns : tie.Need-returns
 returns c =

@@ -1,6 +1,5 @@
 -- What is found below i is what the definition finds there. A place that does not wait changes nothing, and places of the other side do not wait
 -- on this one (`earliest-rest`).
--- Assumes nothing.
 use mathlib.Core.Path.{_≡_, sym, ap, ap₂, _∙_}
 use mathlib.Core.Bool.{Bool, false, cond}
 use mathlib.Core.Logic.{inl, inr, ⊎-elim}
@@ -11,13 +10,13 @@ use borrow.Author.Tests.{eq-eqb, ne-eqb}
 use Rattle.table.specs.declared.Side.{Side}
 use Rattle.table.specs.declared.Table.{Table}
 use Rattle.table.specs.declared.Found.{Found}
-use Rattle.table.specs.Places.{stateNumber, waitingOn, sideAt, recordAt}
+use Rattle.table.specs.Places.{stateNumber, waitingOn, sideAt, recordAt, placeCount, firstIndex, endIndex}
 use Rattle.table.specs.Search.{isAt}
 use Rattle.table.specs.Ranks.{earlier, earliest}
-use Rattle.table.proofs.RankLaws.{other-side, found-below, earliest-none, earliest-more, earliest-rest}
-use Rattle.image.specs.Image.{tableFrom}
-use Rattle.image.specs.Quick.{stateAt, firstOf, endOf}
-use Rattle.image.proofs.Sides.{end-inside, side-inside, side-first, side-outside, waits-octet}
+use Rattle.table.proofs.Sides.{other-side, side-inside, side-first, side-outside, end-inside}
+use Rattle.table.proofs.RankLaws.{found-below, earliest-none, earliest-more, earliest-rest}
+use Rattle.image.specs.Image.{tableFrom, stateOctet}
+use Rattle.image.proofs.PlaceLaws.{waits-octet}
 use borrow.Author.Needs.{needs}
 use Rattle.lent.proofs.search.next_waiting.Statement.{statement}
 use Rattle.lent.proofs.search.next_waiting.Tie as tie
@@ -37,11 +36,11 @@ module _ (c : tie.At-loop Inv-loop μ-loop) where
   abbrev side : Side
   side = c .before .before .before .before .before .before .args .a
 
-  first : c .before .before .first-of .result ≡ firstOf side
-  first = c .before .before .first-of .ensures
+  first : c .before .before .first .result ≡ firstIndex side
+  first = c .before .before .first .ensures
 
-  room : (c .before .end-of .result ≡ endOf side) × (endOf side ≤ 96)
-  room = (c .before .end-of .ensures, end-inside side .1)
+  room : (c .before .end .result ≡ endIndex side) × (endIndex side ≤ placeCount)
+  room = (c .before .end .ensures, end-inside side .1)
 
   -- what is found so far, by the side
   so-far : c .loop .found ≡ earliest (tableFrom (c .before .before .before .before .before .before .args .image .now)) side (c .loop .i)
@@ -55,20 +54,20 @@ waiting-requires c κs = search needs
 number-requires : tie.Need-number-requires Inv-loop μ-loop
 number-requires c κs = search needs
 
-first-of-requires : tie.Need-first-of-requires Inv-loop μ-loop
-first-of-requires c κs = search needs
+first-requires : tie.Need-first-requires Inv-loop μ-loop
+first-requires c κs = search needs
 
-end-of-requires : tie.Need-end-of-requires Inv-loop μ-loop
-end-of-requires c κs = search needs
+end-requires : tie.Need-end-requires Inv-loop μ-loop
+end-requires c κs = search needs
 
 loop-holds : tie.Need-loop-holds Inv-loop μ-loop
 loop-holds c =
     let s = c .before .before .before .before .before .args in
     let t = tableFrom (s .image .now) in
-    let first = c .before .first-of .ensures in
-    let none = earliest-rest t (s .a) 0 (firstOf (s .a)) (omega arith) (λ j low high. idle t (s .a) j (side-outside (s .a) j (omega (arith, high, end-inside (s .a))) (inl high))) in (
+    let first = c .before .first .ensures in
+    let none = earliest-rest t (s .a) 0 (firstIndex (s .a)) (omega arith) (λ j low high. idle t (s .a) j (side-outside (s .a) j (omega (arith, high, end-inside (s .a))) (inl high))) in (
       omega arith,
-      omega (arith, first, c .end-of .ensures, end-inside (s .a) .0),
+      omega (arith, first, c .end .ensures, end-inside (s .a) .0),
       sym (ap₂ (earliest t) (ap sideAt first ∙ side-first (s .a)) first ∙ none ∙ earliest-none t (s .a)),
     )
 
@@ -105,8 +104,8 @@ loop-again c =
     let before = earliest t (s .a) i in
     let inside = side-inside (s .a) i (omega (arith, first k)) (omega (arith, high)) in
     let number = n .number .ensures ∙ ap stateNumber (n .before .waiting .ensures) in
-    let test : isAt (s .a) (waitingOn (s .a)) i (recordAt t i) ≡ eqb (stateAt (s .image .now) i) (n .number .result) =
-    waits-octet (s .image .now) (s .a) i (omega (arith, high)) inside ∙ ap (eqb (stateAt (s .image .now) i)) (sym number) in
+    let test : isAt (s .a) (waitingOn (s .a)) i (recordAt t i) ≡ eqb (stateOctet (s .image .now) i) (n .number .result) =
+    waits-octet (s .image .now) (s .a) i (omega (arith, high)) inside ∙ ap (eqb (stateOctet (s .image .now) i)) (sym number) in
     let by-first = ap (λ (a : Side). earliest t a (i + 1)) (sym (ap sideAt (first k) ∙ side-first (s .a))) in
     let by : Bool → Found = λ b. cond b (earlier t i before) before in (
       omega arith,
@@ -123,8 +122,8 @@ returns c =
     let s = k .before .before .before .before .before .before .args in
     let t = tableFrom (s .image .now) in
     let high = room k in
-    let all : k .loop .i ≡ endOf (s .a) = omega (arith, high) in
-    let rest = earliest-rest t (s .a) (endOf (s .a)) 96 (high .1) (λ j low less. idle t (s .a) j (side-outside (s .a) j less (inr low))) in
+    let all : k .loop .i ≡ endIndex (s .a) = omega (arith, high) in
+    let rest = earliest-rest t (s .a) (endIndex (s .a)) placeCount (high .1) (λ j low less. idle t (s .a) j (side-outside (s .a) j less (inr low))) in
     so-far k ∙ ap (earliest t (s .a)) all ∙ sym rest
 
 pub next-waiting-spec : {M : Type 1} → statement M
@@ -135,8 +134,8 @@ next-waiting-spec =
     μ-loop
     waiting-requires
     number-requires
-    first-of-requires
-    end-of-requires
+    first-requires
+    end-requires
     loop-holds
     mul-if1
     shared-slice-read-if1

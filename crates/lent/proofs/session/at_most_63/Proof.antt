@@ -1,5 +1,4 @@
 -- The test is the definition's.
--- Assumes nothing.
 use borrow.Author.Tests.{lt-ltb, le-ltb}
 use Rattle.lent.proofs.session.at_most_63.Statement.{statement}
 use Rattle.lent.proofs.session.at_most_63.Tie as tie

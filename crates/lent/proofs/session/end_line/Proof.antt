@@ -1,6 +1,5 @@
 -- There is room for any answer (`on-short`), so it is written, and written into the part from the index on it is a run of stores there
 -- (`part-sets`).
--- Assumes nothing.
 use mathlib.Core.Path.{_≡_, ap, _∙_}
 use mathlib.Core.List.{List}
 use Prim.Native.Nat.{ℕ, _-_, _≤_}

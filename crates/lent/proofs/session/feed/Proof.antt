@@ -1,6 +1,5 @@
 -- The invariant is `Feeding`: what is left of the piece decides. A line that has ended takes it past its feed (`feeding-on`), and where no
 -- feed is left it gives the answer (`feeding-end`). There is room for an answer, since each line has its feed.
--- Assumes nothing.
 use mathlib.Core.Path.{_≡_, sym, ap, _∙_}
 use mathlib.Core.Bool.{true}
 use mathlib.Core.List.{List}
@@ -11,7 +10,7 @@ use lib.Seq.{sets, length-take-le}
 use borrow.Author.Needs.{needs}
 use borrow.Author.Tests.{lt-ltb, le-ltb}
 use Rattle.lines.specs.AnswerLine.{answerLine, answerRoom}
-use Rattle.image.specs.Image.{isRead}
+use Rattle.image.specs.Image.{isSoundImage, imageOctets}
 use Rattle.lent.specs.Lent.{stepOn, leftOn}
 use Rattle.lent.specs.declared.session.Session.{Session}
 use Rattle.lent.specs.Session.{endLine, pending, restart}
@@ -26,7 +25,7 @@ session o k n = record { image = o; kept = k; len = n }
 
 abbrev Inv-loop : tie.InvT-loop
 Inv-loop piece out₀ image₀ kept₀ len₀ at₀ i₀ sound out image kept len at i =
-    Feeding piece out₀ (session image₀ kept₀ len₀) (session image kept len) out at i × (length image ≡ 2112) × (sound ≡ isRead image)
+    Feeding piece out₀ (session image₀ kept₀ len₀) (session image kept len) out at i × (length image ≡ imageOctets) × (sound ≡ isSoundImage image)
 
 abbrev μ-loop : tie.MeasureT-loop
 μ-loop piece out₀ image₀ kept₀ len₀ at₀ i₀ sound out image kept len at i = length piece - i
@@ -34,13 +33,13 @@ abbrev μ-loop : tie.MeasureT-loop
 returns : tie.Need-returns Inv-loop μ-loop
 returns c = let few = lt-ltb _ _ (c .if1 .taken) in (rw few, rw few)
 
-slice-aggregate-is-read : tie.Need-slice-aggregate-is-read Inv-loop μ-loop
-slice-aggregate-is-read c = search needs
+slice-aggregate-is-sound-image : tie.Need-slice-aggregate-is-sound-image Inv-loop μ-loop
+slice-aggregate-is-sound-image c = search needs
 
-is-read-requires : tie.Need-is-read-requires Inv-loop μ-loop
-is-read-requires c κs = search needs
+is-sound-image-requires : tie.Need-is-sound-image-requires Inv-loop μ-loop
+is-sound-image-requires c κs = search needs
 
-size : (c : tie.Start Inv-loop μ-loop) → (length (c .args .s .kept) ≡ 63) × (length (c .args .s .image) ≡ 2112)
+size : (c : tie.Start Inv-loop μ-loop) → (length (c .args .s .kept) ≡ 63) × (length (c .args .s .image) ≡ imageOctets)
 size c = (search needs, search needs)
 
 -- a slice's length is a number of 64 bits
@@ -52,7 +51,7 @@ loop-holds c =
     let s = c .before .before .before .before .before .before .before in (
       feeding-start (s .args .piece .now) (s .args .out .now) (session (s .args .s .image) (s .args .s .kept) (s .args .s .len)) (size s .0),
       size s .1,
-      c .is-read .ensures,
+      c .is-sound-image .ensures,
     )
 
 keep-line-requires : tie.Need-keep-line-requires Inv-loop μ-loop
@@ -176,7 +175,7 @@ loop-less c = let e = c .before .before .before in omega (arith, inside e, there
 loop-again : tie.Need-loop-again Inv-loop μ-loop
 loop-again c =
     let e = c .before .before .before in
-    (again e, search needs, e .end-line .ensures .4 ∙ ap isRead (sym (e .end-line .ensures .3)))
+    (again e, search needs, e .end-line .ensures .4 ∙ ap isSoundImage (sym (e .end-line .ensures .3)))
 
 pub feed-spec : {M : Type 1} → statement M
 feed-spec =
@@ -185,8 +184,8 @@ feed-spec =
     Inv-loop
     μ-loop
     returns
-    slice-aggregate-is-read
-    is-read-requires
+    slice-aggregate-is-sound-image
+    is-sound-image-requires
     loop-holds
     keep-line-requires
     same-length

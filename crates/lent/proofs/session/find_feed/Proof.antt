@@ -1,5 +1,4 @@
 -- What is left of the piece decides: where it says that the line ends is where the whole says so.
--- Assumes nothing.
 use mathlib.Core.Path.{_≡_, refl}
 use Prim.Native.Nat.{_+_, _-_, _≤_}
 use native.Mathlib.Omega.{arith}

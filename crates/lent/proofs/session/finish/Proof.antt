@@ -1,5 +1,4 @@
 -- A line that has come in part is answered as it stands.
--- Assumes nothing.
 use mathlib.Core.Path.{_≡_, sym, ap, _∙_}
 use Prim.Native.Nat.{_≤_}
 use lib.ListN.{length, take}
@@ -21,11 +20,11 @@ returns-2 c =
 at-most-63-requires : tie.Need-at-most-63-requires
 at-most-63-requires c κs = search needs
 
-slice-aggregate-is-read : tie.Need-slice-aggregate-is-read
-slice-aggregate-is-read c = search needs
+slice-aggregate-is-sound-image : tie.Need-slice-aggregate-is-sound-image
+slice-aggregate-is-sound-image c = search needs
 
-is-read-requires : tie.Need-is-read-requires
-is-read-requires c κs = search needs
+is-sound-image-requires : tie.Need-is-sound-image-requires
+is-sound-image-requires c κs = search needs
 
 slice-aggregate-end-line : tie.Need-slice-aggregate-end-line
 slice-aggregate-end-line c = search needs
@@ -49,7 +48,7 @@ slice-aggregate-end-line-2 c =
     sym (length-take-le (k .at-most-63 .result) (first k .args .s .kept) (rw (size (first k)) (few k)))
 
 end-line-requires : tie.Need-end-line-requires
-end-line-requires c κs = (search needs, c .before .before .before .is-read .ensures)
+end-line-requires c κs = (search needs, c .before .before .before .is-sound-image .ensures)
 
 same-length : tie.Need-same-length
 same-length c = search needs
@@ -75,8 +74,8 @@ finish-spec =
     returns
     returns-2
     at-most-63-requires
-    slice-aggregate-is-read
-    is-read-requires
+    slice-aggregate-is-sound-image
+    is-sound-image-requires
     slice-aggregate-end-line
     array-share-prefix-kept
     slice-aggregate-end-line-2

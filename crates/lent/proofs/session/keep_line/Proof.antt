@@ -1,5 +1,4 @@
 -- The count of octets up to the end found, as far as there is room, is the count that the definitions keep (`kept-run`, `len-run`).
--- Assumes nothing.
 use mathlib.Core.Path.{_≡_}
 use mathlib.Core.List.{List}
 use Prim.Native.Nat.{ℕ, _+_}

@@ -1,5 +1,4 @@
 -- Sixteen zeros are two words of zero, and connection and count are zero where the four octets are.
--- Assumes nothing.
 use mathlib.Core.Path.{_≡_, refl, sym, ap, ap₂, _∙_}
 use native.Mathlib.Omega.{arith}
 use Prim.Native.Nat.{ℕ, _+_, _≤_}

@@ -1,5 +1,4 @@
 -- A free place changes nothing; an occupied one becomes the last of its bucket, if none before it has its call.
--- Assumes nothing.
 use mathlib.Core.Path.{sym}
 use Rattle.laws.proofs.Bools.{never}
 use Rattle.image.proofs.Buckets.{enter-free, enter-first, enter-busy}

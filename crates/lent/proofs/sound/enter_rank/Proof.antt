@@ -1,6 +1,5 @@
 -- The place's octets are its record's state and its rank. A free place has rank 0 or is refused, and 0 is not marked; of another the callee says
 -- what the laws of marks ask.
--- Assumes nothing.
 use mathlib.Core.Path.{_≡_, refl, sym, ap, ap₂, subst, _∙_}
 use mathlib.Core.Bool.{Bool, true, false, cond, _&&_}
 use mathlib.Core.List.{List}
@@ -10,14 +9,13 @@ use borrow.Author.Tests.{eq-eqb, ne-eqb}
 use Rattle.table.specs.declared.Side.{Side}
 use Rattle.table.specs.declared.Record.{Record}
 use Rattle.table.specs.declared.Table.{Table}
-use Rattle.table.specs.Places.{isFree, sideAt, recordAt, rankAt}
+use Rattle.table.specs.Places.{isFree, sideAt, recordAt, rankAt, placeCount}
 use Rattle.table.specs.Ranks.{rankFits, rankSound, isRanked}
 use Rattle.table.specs.Marks.{isFresh, withMark, ofSide, Marked, Entering}
-use Rattle.table.proofs.RankLaws.{below-not}
-use Rattle.table.proofs.MarkLaws.{entered, left-out, side-calls, below-more}
+use Rattle.laws.proofs.Lists.{below-not, below-more}
+use Rattle.table.proofs.MarkLaws.{entered, left-out, side-calls}
 use Rattle.image.specs.declared.ranks.Calls.{Calls}
-use Rattle.image.specs.Image.{tableFrom, rankOctet}
-use Rattle.image.specs.Quick.{stateAt}
+use Rattle.image.specs.Image.{tableFrom, rankOctet, placeOctets, stateOctet}
 use Rattle.image.proofs.Round.{size-from, record-at, rank-at}
 use Rattle.image.proofs.PlaceLaws.{free-octet}
 use borrow.Author.Needs.{needs}
@@ -37,8 +35,8 @@ module _ (s : tie.Start) where
   abbrev marks : List ℕ
   marks = s .args .marks .now
 
-  free : isFree (recordAt table i .state) ≡ eqb (stateAt octets i) 0
-  free = ap (λ (r : Record). isFree (r .state)) (record-at octets i (s .pre .0)) ∙ free-octet octets (i * 22)
+  free : isFree (recordAt table i .state) ≡ eqb (stateOctet octets i) 0
+  free = ap (λ (r : Record). isFree (r .state)) (record-at octets i (s .pre .0)) ∙ free-octet octets (i * placeOctets)
 
   rank : rankAt table i ≡ rankOctet octets i
   rank = rank-at octets i (s .pre .0)
@@ -49,11 +47,11 @@ module _ (s : tie.Start) where
       → l ≡ cond (rankFits table i) (withMark marks (sideAt i) (rankAt table i)) marks
       → (x ≡ true → Entering table (i + 1) l) × (x ≡ false → isRanked table ≡ false)
   decides x l e m =
-      let size = size-from octets 0 96 in (
+      let size = size-from octets in (
         (λ y.
             let more = entered table size i marks (s .pre .3 .1) (sym e ∙ y) in
             (below-more (rankSound table) i (s .pre .3 .0) (more .0), subst (Marked table (i + 1)) (sym m) (more .1))),
-        λ y. below-not (rankSound table) 96 i (s .pre .0) (left-out table size i marks (s .pre .3 .1) (sym e ∙ y)),
+        λ y. below-not (rankSound table) placeCount i (s .pre .0) (left-out table size i marks (s .pre .3 .1) (sym e ∙ y)),
       )
 
 -- 0 is always new, and is not marked

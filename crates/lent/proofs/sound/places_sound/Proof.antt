@@ -1,20 +1,23 @@
--- The places that were looked at fit and are entered, and so are their ranks; those that are left decide.
--- Assumes nothing.
+-- The places that were looked at fit and are entered, and so are their ranks. A place that does not fit, or a call or a rank that stands twice, decides
+-- against the image; when all are entered, it is one of a sound table.
 use mathlib.Core.Path.{_≡_, refl, sym, subst, _∙_}
 use mathlib.Core.Bool.{Bool, true, false, _&&_}
-use Prim.Native.Nat.{ℕ, _-_, _≤_}
+use mathlib.Core.Logic.{⊎-elim}
+use Prim.Native.Nat.{ℕ, _-_, _≤_, _<_}
 use native.Mathlib.Omega.{arith}
 use borrow.Author.Tests.{not-true, not-false}
-use Rattle.laws.proofs.Bools.{and-left, and-right, and-both}
-use Rattle.table.specs.Search.{every, below}
+use Rattle.laws.specs.Lists.{below}
+use Rattle.laws.proofs.Bools.{and-left, and-right, not-both, equal-or}
+use Rattle.laws.proofs.Lists.{below-none, below-more, below-get}
+use Rattle.table.specs.Places.{placeCount}
+use Rattle.table.specs.Sound.{recordsSound, isSound}
 use Rattle.table.specs.Ranks.{rankSound, isRanked}
 use Rattle.table.specs.Marks.{Entering}
-use Rattle.table.specs.Sound.{placeSound, apartFromLater, recordsSound, isSound}
 use Rattle.table.proofs.MarkLaws.{entering-none}
-use Rattle.image.specs.Image.{statesFit, tableFrom}
-use Rattle.image.specs.Quick.{Entered}
-use Rattle.image.proofs.PlaceLaws.{fitFrom, fit-fails, fit-passes, fit-end}
-use Rattle.image.proofs.Apart.{calls-apart}
+use Rattle.image.specs.Image.{tableFrom, statesFit, placesSound}
+use Rattle.image.specs.Quick.{placeFits, Entered}
+use Rattle.image.proofs.PlaceLaws.{places-fit}
+use Rattle.image.proofs.Apart as apart
 use Rattle.image.proofs.Buckets.{entered-none}
 use borrow.Author.Needs.{needs}
 use Rattle.lent.proofs.sound.places_sound.Statement.{statement}
@@ -22,18 +25,15 @@ use Rattle.lent.proofs.sound.places_sound.Tie as tie
 
 abbrev Inv-loop : tie.InvT-loop
 Inv-loop image calls last₀ before₀ marks₀ i₀ last before marks i =
-    (i ≤ 96) × (fitFrom image 0 ≡ fitFrom image i) × Entered image i last before × Entering (tableFrom image) i marks
+    (i ≤ placeCount) × (below (placeFits image) i ≡ true) × Entered image i last before × Entering (tableFrom image) i marks
 
 abbrev μ-loop : tie.MeasureT-loop
-μ-loop image calls last₀ before₀ marks₀ i₀ last before marks i = 96 - i
+μ-loop image calls last₀ before₀ marks₀ i₀ last before marks i = placeCount - i
 
-split-fails : (a b c d : Bool) → (a && b) ≡ false → (a && ((b && c) && d)) ≡ false
-split-fails true b c d e = rw e
-split-fails false b c d e = refl
-
-second-fails : (a b : Bool) → b ≡ false → (a && b) ≡ false
-second-fails true b e = e
-second-fails false b e = refl
+-- an image that would not be sound if it passed the test does not pass
+fails : (b : Bool) → (b ≡ true → ⊥) → b ≡ false
+fails false h = refl
+fails true h = absurd (h refl)
 
 calls-in-requires : tie.Need-calls-in-requires Inv-loop μ-loop
 calls-in-requires c κs = search needs
@@ -41,7 +41,7 @@ calls-in-requires c κs = search needs
 loop-holds : tie.Need-loop-holds Inv-loop μ-loop
 loop-holds c =
     let s = c .before .before .args .image .now in
-    (omega arith, refl, entered-none s, entering-none (tableFrom s) _ refl)
+    (omega arith, below-none (placeFits s), entered-none s, entering-none (tableFrom s) _ refl)
 
 place-fits-requires : tie.Need-place-fits-requires Inv-loop μ-loop
 place-fits-requires c κs = omega arith
@@ -50,10 +50,8 @@ returns : tie.Need-returns Inv-loop μ-loop
 returns c =
     let k = c .before .before .before in
     let s = k .before .before .before .args .image .now in
-    let t = tableFrom s in
     let no = sym (c .before .place-fits .ensures) ∙ not-true _ (c .if1 .taken) in
-    let fails = k .loop .inv .1 ∙ fit-fails s (k .loop .i) (omega arith) no in
-    sym (split-fails (statesFit s 0 96) (every placeSound 0 (t .places)) (every apartFromLater 0 (t .places)) (isRanked t) fails)
+    sym (fails (placesSound s) (λ test. not-both (places-fit s test (k .loop .i) (omega arith)) no))
 
 enter-requires : tie.Need-enter-requires Inv-loop μ-loop
 enter-requires c κs =
@@ -64,7 +62,8 @@ returns-2 c =
     let e = c .before in
     let k = e .before .before .before .before .before .before in
     let s = k .before .before .before .args .image .now in
-    sym (second-fails (statesFit s 0 96) (isSound (tableFrom s)) (e .enter .ensures .1 (not-true _ (c .if2 .taken))))
+    let unsound = e .enter .ensures .1 (not-true _ (c .if2 .taken)) in
+    sym (fails (placesSound s) (λ test. not-both (and-right (statesFit s) _ test) unsound))
 
 enter-rank-requires : tie.Need-enter-rank-requires Inv-loop μ-loop
 enter-rank-requires c κs =
@@ -77,7 +76,7 @@ returns-3 c =
     let k = e .before .before .before .before .before .before .before .before .before in
     let s = k .before .before .before .args .image .now in
     let unranked = e .enter-rank .ensures .1 (not-true _ (c .if3 .taken)) in
-    sym (second-fails (statesFit s 0 96) (isSound (tableFrom s)) (second-fails (recordsSound (tableFrom s)) (isRanked (tableFrom s)) unranked))
+    sym (fails (placesSound s) (λ test. not-both (and-right (recordsSound (tableFrom s)) _ (and-right (statesFit s) _ test)) unranked))
 
 add-i : tie.Need-add-i Inv-loop μ-loop
 add-i c = omega arith
@@ -94,7 +93,7 @@ loop-again c =
     let k = f .before .before .before in
     let s = k .before .before .before .args .image .now in (
       omega arith,
-      k .loop .inv .1 ∙ fit-passes s (k .loop .i) (omega arith) (sym (f .before .place-fits .ensures) ∙ not-false _ (f .if1 .left)),
+      below-more (placeFits s) (k .loop .i) (k .loop .inv .1) (sym (f .before .place-fits .ensures) ∙ not-false _ (f .if1 .left)),
       e .enter .ensures .0 (not-false _ (g .if2 .left)),
       r .enter-rank .ensures .0 (not-false _ (c .if3 .left)),
     )
@@ -103,11 +102,10 @@ returns-4 : tie.Need-returns-4 Inv-loop μ-loop
 returns-4 c =
     let k = c .before in
     let s = k .before .before .before .args .image .now in
-    let all = k .loop .inv .1 ∙ fit-end s (k .loop .i) (c .loop-test .left) in
-    let apart = calls-apart s (λ m l. k .loop .inv .2 .apart m (omega arith)) in
-    let past : k .loop .i ≡ 96 = omega arith in
+    let past : k .loop .i ≡ placeCount = omega arith in
     let ranked = subst (λ (n : ℕ). below (rankSound (tableFrom s)) n ≡ true) past (k .loop .inv .3 .0) in
-    sym (and-both (and-left (statesFit s 0 96) _ all) (and-both (and-both (and-right (statesFit s 0 96) _ all) apart) ranked))
+    sym
+    (apart.places-sound s (λ i h. below-get (placeFits s) (k .loop .i) (k .loop .inv .1) i (omega arith)) (λ m l. k .loop .inv .2 .apart m (omega arith)) ranked)
 
 pub places-sound-spec : {M : Type 1} → statement M
 places-sound-spec =

@@ -1,95 +1,116 @@
 -- Each sum so far and the sum of what is left are the whole; a place adds at most 3, so no sum wraps.
--- Assumes nothing.
-use mathlib.Core.Path.{_≡_}
+use mathlib.Core.Path.{_≡_, sym, ap, ap₂, _∙_}
+use mathlib.Core.Bool.{cond, _&&_}
 use mathlib.Core.List.{List}
-use Prim.Native.Nat.{_≤_, _<_, _-_, _+_, _*_}
-use lib.ListN.{drop, getD, length}
+use Prim.Native.Nat.{ℕ, _≤_, _<_, _-_, _+_, _*_}
+use lib.Count.{ones}
+use lib.ListN.{drop}
 use Rattle.table.specs.declared.Record.{Record}
-use Rattle.table.specs.declared.State.the-variants.{Free}
+use Rattle.table.specs.declared.State.{State}
+use Rattle.table.specs.declared.Side.{Side}
 use Rattle.table.specs.declared.Side.the-variants.{Position, Line}
-use Rattle.table.specs.Places.{blank, sideAt}
-use Rattle.table.specs.Search.{total, isAt}
-use Rattle.table.specs.Status.{freeOn, waitsAt, runningAt}
-use Rattle.laws.proofs.Runs.{length-mapped}
-use Rattle.table.proofs.Laws.{total-at, total-end, one-or-none, waits-le, ones-few}
+use Rattle.table.specs.Places.{sideAt, sameSide, isFree, placeCount}
+use Rattle.table.specs.Timers.{timerSet}
+use Rattle.table.specs.Search.{total}
+use Rattle.table.specs.Status.{freeOn, waitsIn, waitsAt, runningAt}
+use Rattle.table.proofs.Laws.{one-or-none, waits-le, ones-few}
+use Rattle.image.specs.Image.{recordIn, tableFrom}
+use Rattle.image.proofs.Looks.{total-place, total-past}
+use Rattle.image.proofs.PlaceLaws.{state-in}
 use borrow.Author.Needs.{needs}
 use native.Mathlib.Omega.{arith}
 use Rattle.lent.proofs.status.tally.Statement.{statement}
 use Rattle.lent.proofs.status.tally.Tie as tie
 
+-- the sum of the places from i on
+abbrev left : (ℕ → Record → ℕ) → List ℕ → ℕ → ℕ
+left f s i = total f i (drop i (tableFrom s .places))
+
 abbrev Inv-loop : tie.InvT-loop
-Inv-loop t positions₀ lines₀ waiting₀ running₀ i₀ positions lines waiting running i =
-    (i ≤ 96)
+Inv-loop image positions₀ lines₀ waiting₀ running₀ i₀ positions lines waiting running i =
+    (i ≤ placeCount)
     × (positions ≤ 3 * i)
     × (lines ≤ 3 * i)
     × (waiting ≤ 3 * i)
     × (running ≤ 3 * i)
-    × (total (freeOn Position) 0 (t .places) ≡ positions + total (freeOn Position) i (drop i (t .places)))
-    × (total (freeOn Line) 0 (t .places) ≡ lines + total (freeOn Line) i (drop i (t .places)))
-    × (total waitsAt 0 (t .places) ≡ waiting + total waitsAt i (drop i (t .places)))
-    × (total runningAt 0 (t .places) ≡ running + total runningAt i (drop i (t .places)))
+    × (left (freeOn Position) image 0 ≡ positions + left (freeOn Position) image i)
+    × (left (freeOn Line) image 0 ≡ lines + left (freeOn Line) image i)
+    × (left waitsAt image 0 ≡ waiting + left waitsAt image i)
+    × (left runningAt image 0 ≡ running + left runningAt image i)
 
 abbrev μ-loop : tie.MeasureT-loop
-μ-loop t positions₀ lines₀ waiting₀ running₀ i₀ positions lines waiting running i = 96 - i
+μ-loop image positions₀ lines₀ waiting₀ running₀ i₀ positions lines waiting running i = placeCount - i
 
-abbrev places : tie.At-loop Inv-loop μ-loop → List Record
-places c = c .before .args .t1 .places
+-- the place that is looked at: what it adds to each sum
+module _ (c : tie.After-of Inv-loop μ-loop) where
+  abbrev top : tie.At-loop Inv-loop μ-loop
+  top = c .before .before .before .before
 
-abbrev here : tie.At-loop Inv-loop μ-loop → Record
-here c = getD (places c) (c .loop .i) blank
+  abbrev octets : List ℕ
+  octets = top .before .before .args .image .now
 
--- a table by value has as many places as its type says
-size : (c : tie.At-loop Inv-loop μ-loop) → length (places c) ≡ 96
-size c = search length-mapped
+  abbrev i : ℕ
+  i = top .loop .i
 
-few-positions : (c : tie.After-free-on Inv-loop μ-loop) → c .free-on .result ≤ 1
-few-positions c =
-    let k = c .before .before .before in rw (c .free-on .ensures) (one-or-none (isAt Position Free (k .loop .i) (here k)))
+  side : c .before .before .at .result ≡ sideAt i
+  side = c .before .before .at .ensures
 
-few-lines : (c : tie.After-free-on2 Inv-loop μ-loop) → c .free-on2 .result ≤ 1
-few-lines c =
-    let k = c .before .before .before .before in rw (c .free-on2 .ensures) (one-or-none (isAt Line Free (k .loop .i) (here k)))
+  state : c .of .result ≡ recordIn octets i .state
+  state = c .of .ensures ∙ sym (state-in octets i)
 
-few-waiting : (c : tie.After-waits-in Inv-loop μ-loop) → c .waits-in .result ≤ 1
-few-waiting c = rw (c .waits-in .ensures) (waits-le (here (c .before .before .before .before .before) .state))
+  frees : (b : Side) (n : ℕ) → n ≡ cond (sameSide (c .before .before .at .result) b && isFree (c .of .result)) 1 0 → n ≡ freeOn b i (recordIn octets i)
+  frees b n e = e ∙ ap₂ (λ (a : Side) (s : State). cond (sameSide a b && isFree s) 1 0) side state
 
-few-running : (c : tie.After-running-at Inv-loop μ-loop) → c .running-at .result ≤ 3
-few-running c =
-    let k = c .before .before .before .before .before .before in
-    rw (c .running-at .ensures) (ones-few (sideAt (k .loop .i)) (here k .state))
+  waits : (n : ℕ) → n ≡ waitsIn (c .of .result) → n ≡ waitsAt i (recordIn octets i)
+  waits n e = e ∙ ap waitsIn state
+
+  runs : (n : ℕ) → n ≡ ones (timerSet (c .before .before .at .result) (c .of .result)) → n ≡ runningAt i (recordIn octets i)
+  runs n e = e ∙ ap₂ (λ (a : Side) (s : State). ones (timerSet a s)) side state
+
+  one : (b : Side) → freeOn b i (recordIn octets i) ≤ 1
+  one b = one-or-none (sameSide (sideAt i) b && isFree (recordIn octets i .state))
+
+  few : runningAt i (recordIn octets i) ≤ 3
+  few = ones-few (sideAt i) (recordIn octets i .state)
 
 loop-holds : tie.Need-loop-holds Inv-loop μ-loop
 loop-holds c = (omega arith, omega arith, omega arith, omega arith, omega arith, omega arith, omega arith, omega arith, omega arith)
 
-mul-r : tie.Need-mul-r Inv-loop μ-loop
-mul-r c = omega arith
+at-requires : tie.Need-at-requires Inv-loop μ-loop
+at-requires c κs = search needs
 
-element-copy-out-r : tie.Need-element-copy-out-r Inv-loop μ-loop
-element-copy-out-r c = search needs
+mul-of : tie.Need-mul-of Inv-loop μ-loop
+mul-of c = omega arith
+
+shared-slice-read-of : tie.Need-shared-slice-read-of Inv-loop μ-loop
+shared-slice-read-of c = omega arith
+
+of-requires : tie.Need-of-requires Inv-loop μ-loop
+of-requires c κs = search needs
 
 free-on-requires : tie.Need-free-on-requires Inv-loop μ-loop
 free-on-requires c κs = search needs
 
 add-positions : tie.Need-add-positions Inv-loop μ-loop
-add-positions c = omega (arith, few-positions c)
+add-positions c = let k = c .before in omega (arith, frees k Position _ (c .free-on .ensures), one k Position)
 
 free-on-requires-2 : tie.Need-free-on-requires-2 Inv-loop μ-loop
 free-on-requires-2 c κs = search needs
 
 add-lines : tie.Need-add-lines Inv-loop μ-loop
-add-lines c = omega (arith, few-lines c)
+add-lines c = let k = c .before .before in omega (arith, frees k Line _ (c .free-on2 .ensures), one k Line)
 
 waits-in-requires : tie.Need-waits-in-requires Inv-loop μ-loop
 waits-in-requires c κs = search needs
 
 add-waiting : tie.Need-add-waiting Inv-loop μ-loop
-add-waiting c = omega (arith, few-waiting c)
+add-waiting c = let k = c .before .before .before in omega (arith, c .waits-in .ensures, waits-le (k .of .result))
 
-running-at-requires : tie.Need-running-at-requires Inv-loop μ-loop
-running-at-requires c κs = search needs
+running-in-requires : tie.Need-running-in-requires Inv-loop μ-loop
+running-in-requires c κs = search needs
 
 add-running : tie.Need-add-running Inv-loop μ-loop
-add-running c = omega (arith, few-running c)
+add-running c = let k = c .before .before .before .before in omega (arith, runs k _ (c .running-in .ensures), few k)
 
 add-i : tie.Need-add-i Inv-loop μ-loop
 add-i c = omega arith
@@ -99,31 +120,32 @@ loop-less c = omega arith
 
 loop-again : tie.Need-loop-again Inv-loop μ-loop
 loop-again c =
-    let k = c .before .before .before .before .before .before in
-    let l = places k in
-    let i = k .loop .i in
-    let h : i < length l = omega (arith, size k) in (
+    let w = c .before in
+    let l = w .before in
+    let p = l .before in
+    let k = p .before in
+    let inside : i k < placeCount = omega arith in (
       omega arith,
-      omega (arith, few-positions (c .before .before .before)),
-      omega (arith, few-lines (c .before .before)),
-      omega (arith, few-waiting (c .before)),
-      omega (arith, few-running c),
-      omega (arith, total-at (freeOn Position) l i h),
-      omega (arith, total-at (freeOn Line) l i h),
-      omega (arith, total-at waitsAt l i h),
-      omega (arith, total-at runningAt l i h),
+      omega (arith, frees k Position _ (p .free-on .ensures), one k Position),
+      omega (arith, frees k Line _ (l .free-on2 .ensures), one k Line),
+      omega (arith, w .waits-in .ensures, waits-le (k .of .result)),
+      omega (arith, runs k _ (c .running-in .ensures), few k),
+      omega (arith, frees k Position _ (p .free-on .ensures), total-place (octets k) (i k) (freeOn Position) inside),
+      omega (arith, frees k Line _ (l .free-on2 .ensures), total-place (octets k) (i k) (freeOn Line) inside),
+      omega (arith, waits k _ (w .waits-in .ensures), total-place (octets k) (i k) waitsAt inside),
+      omega (arith, runs k _ (c .running-in .ensures), total-place (octets k) (i k) runningAt inside),
     )
 
 returns : tie.Need-returns Inv-loop μ-loop
 returns c =
     let k = c .before in
-    let l = places k in
-    let h : length l ≤ k .loop .i = omega (arith, size k) in
-    let e1 : total (freeOn Position) 0 l ≡ k .loop .positions = omega (arith, total-end (freeOn Position) l (k .loop .i) h) in
-    let e2 : total (freeOn Line) 0 l ≡ k .loop .lines = omega (arith, total-end (freeOn Line) l (k .loop .i) h) in
-    let e3 : total waitsAt 0 l ≡ k .loop .waiting = omega (arith, total-end waitsAt l (k .loop .i) h) in
-    let e4 : total runningAt 0 l ≡ k .loop .running = omega (arith, total-end runningAt l (k .loop .i) h) in
-    rw (e1, e2, e3, e4)
+    let s = k .before .before .args .image .now in
+    let past : placeCount ≤ k .loop .i = omega arith in
+    let e1 : k .loop .positions ≡ left (freeOn Position) s 0 = omega (arith, total-past s (k .loop .i) (freeOn Position) past) in
+    let e2 : k .loop .lines ≡ left (freeOn Line) s 0 = omega (arith, total-past s (k .loop .i) (freeOn Line) past) in
+    let e3 : k .loop .waiting ≡ left waitsAt s 0 = omega (arith, total-past s (k .loop .i) waitsAt past) in
+    let e4 : k .loop .running ≡ left runningAt s 0 = omega (arith, total-past s (k .loop .i) runningAt past) in
+    λ j. record { number = 0; positions = e1 j; lines = e2 j; waiting = e3 j; timers = e4 j }
 
 pub tally-spec : {M : Type 1} → statement M
 tally-spec =
@@ -132,15 +154,17 @@ tally-spec =
     Inv-loop
     μ-loop
     loop-holds
-    mul-r
-    element-copy-out-r
+    at-requires
+    mul-of
+    shared-slice-read-of
+    of-requires
     free-on-requires
     add-positions
     free-on-requires-2
     add-lines
     waits-in-requires
     add-waiting
-    running-at-requires
+    running-in-requires
     add-running
     add-i
     loop-less

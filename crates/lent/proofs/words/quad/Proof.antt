@@ -1,5 +1,4 @@
 -- A run of octets is its two halves, which the callee gives.
--- Assumes nothing.
 use native.Mathlib.Omega.{arith}
 use Rattle.image.proofs.WordLaws.{run-double}
 use borrow.Author.Needs.{needs}

@@ -1,5 +1,4 @@
 -- Two calls are the same where both their words are, whichever is looked at first; the words are the callee's.
--- Assumes nothing.
 use mathlib.Core.Path.{_≡_, refl, sym, ap₂, _∙_}
 use mathlib.Core.Bool.{Bool, true, false, _&&_, and-true, and-false}
 use mathlib.Core.List.{List}
@@ -9,7 +8,7 @@ use lib.Dec.{eqb}
 use lib.ListN.{length, take, drop}
 use borrow.Author.Tests.{eqb-true, eqb-false, eq-eqb, ne-eqb}
 use Rattle.table.specs.Search.{sameCall}
-use Rattle.image.specs.Quick.{numberOf, runAt}
+use Rattle.image.specs.Quick.{lowFirst, runAt}
 use Rattle.image.proofs.Round.{Octets}
 use Rattle.image.proofs.WordLaws.{first-word, second-word, long-call, call-octets, first-differs, second-decides}
 use borrow.Author.Needs.{needs}
@@ -18,10 +17,10 @@ use Rattle.lent.proofs.words.same_call.Tie as tie
 
 -- the two words of a call
 abbrev front : List ℕ → ℕ
-front c = numberOf (take 8 c)
+front c = lowFirst (take 8 c)
 
 abbrev back : List ℕ → ℕ
-back c = numberOf (drop 8 c)
+back c = lowFirst (drop 8 c)
 
 -- what the code asks, of two calls
 by-words : (c d : List ℕ) → length c ≡ 16 → length d ≡ 16 → Octets c → Octets d → (eqb (back c) (back d) && eqb (front c) (front d)) ≡ sameCall c d

@@ -1,5 +1,4 @@
 -- The law of two octets, as the callee joins them.
--- Assumes nothing.
 use native.Mathlib.Omega.{arith}
 use Rattle.image.proofs.WordLaws.{run-two}
 use borrow.Author.Needs.{needs}

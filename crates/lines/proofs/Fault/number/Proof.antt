@@ -1,5 +1,4 @@
 -- Each arm of the match is a clause of the definition, and the last one's test is that of its clause.
--- Assumes nothing.
 use borrow.Author.Needs.{needs}
 use borrow.Author.Tests.{ne-eqb}
 use Rattle.lines.proofs.Fault.number.Statement.{statement}

@@ -1,6 +1,5 @@
 -- The first loop has the value of each octet that it passed, none above the largest, and where the largest is no digit's the call is bad.
 -- In the second the call of the whole is the octets so far, read on through the rest of the digits.
--- Assumes nothing.
 use mathlib.Core.Path.{_≡_, refl, sym, ap, _∙_}
 use mathlib.Core.List.{List, []}
 use mathlib.Core.Logic.{⊎-elim}

@@ -1,5 +1,4 @@
 -- The part after the first tab is a cut of the slice; where there is no tab, both are empty.
--- Assumes nothing.
 use native.Mathlib.Omega.{arith}
 use borrow.Author.Needs.{needs}
 use Rattle.lines.proofs.FieldLaws.{before-within, part-after, part-none}

@@ -1,5 +1,4 @@
 -- The tabs counted and the tabs of the rest are the tabs of the whole.
--- Assumes nothing.
 use mathlib.Core.Path.{_≡_}
 use mathlib.Core.Logic.{⊎-elim}
 use Prim.Native.Nat.{_+_, _-_, _≤_}

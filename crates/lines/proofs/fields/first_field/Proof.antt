@@ -1,5 +1,4 @@
 -- The part before the first tab is a cut of the slice.
--- Assumes nothing.
 use mathlib.Core.Path.{sym, ap, _∙_}
 use Prim.Native.Nat.{ℕ}
 use native.Mathlib.Omega.{arith}

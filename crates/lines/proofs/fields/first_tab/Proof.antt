@@ -1,5 +1,4 @@
 -- The octets passed and the part before the first tab of the rest make the part before the first tab of the whole.
--- Assumes nothing.
 use mathlib.Core.Path.{_≡_}
 use Prim.Native.Nat.{_+_, _-_, _≤_}
 use native.Mathlib.Omega.{arith}

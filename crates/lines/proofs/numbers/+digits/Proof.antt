@@ -1,5 +1,4 @@
 -- Up to five digits are told by the powers of ten; any five more by the number without its last five, by its value.
--- Assumes nothing.
 use mathlib.Core.Path.{sym}
 use Prim.Native.Nat.{ℕ, _<_, _/_}
 use native.Mathlib.Omega.{arith}

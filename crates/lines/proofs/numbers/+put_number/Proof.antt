@@ -1,5 +1,4 @@
 -- The number without its last digit is written by the call, and one store writes the last digit; by the value of the number.
--- Assumes nothing.
 use mathlib.Core.Path.{sym, ap, _∙_}
 use Prim.Native.Nat.{ℕ, _+_, _/_, _%_, _≤_, _<_}
 use native.Mathlib.Omega.{arith}

@@ -1,5 +1,4 @@
 -- No part of the sum runs over, since no number has more than twenty digits.
--- Assumes nothing.
 use native.Mathlib.Omega.{arith}
 use Rattle.lines.proofs.Decimal.{decimal-twenty}
 use borrow.Author.Needs.{needs}

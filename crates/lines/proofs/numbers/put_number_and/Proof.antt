@@ -1,5 +1,4 @@
 -- The number, and one store more.
--- Assumes nothing.
 use native.Mathlib.Omega.{arith}
 use borrow.Author.Needs.{needs}
 use Rattle.laws.proofs.Runs.{sets-more}

@@ -1,5 +1,4 @@
 -- The number of the whole is the value so far, read on through the rest. Each refusal is one law of the turn that it stands in.
--- Assumes nothing.
 use mathlib.Core.Path.{_≡_, sym, ap, _∙_}
 use mathlib.Core.Logic.{⊎-elim}
 use mathlib.Core.List.{List}

@@ -1,5 +1,4 @@
 -- The code's test is that of the definition.
--- Assumes nothing.
 use borrow.Author.Tests.{le-ltb, lt-ltb}
 use borrow.Author.Needs.{needs}
 use Rattle.table.proofs.Place.at.Statement.{statement}

@@ -1,5 +1,4 @@
 -- The side of the place at the index, by the contracts of `Place::at` and `Place::side`.
--- Assumes nothing.
 use mathlib.Core.Path.{sym, _∙_}
 use borrow.Author.Needs.{needs}
 use Rattle.table.proofs.Side.at.Statement.{statement}

@@ -1,5 +1,4 @@
 -- Each arm is a clause of the definition.
--- Assumes nothing.
 use borrow.Author.Needs.{needs}
 use Rattle.table.proofs.Sided.is_of.Statement.{statement}
 use Rattle.table.proofs.Sided.is_of.Tie as tie

@@ -1,5 +1,4 @@
 -- The empty table is 96 free records.
--- Assumes nothing.
 use borrow.Author.Needs.{needs}
 use Rattle.table.proofs.Table.empty.Statement.{statement}
 use Rattle.table.proofs.Table.empty.Tie as tie

@@ -1,5 +1,4 @@
 -- The two calls are compared octet by octet from the last on: those that were passed agree, and one that differs decides.
--- Assumes nothing.
 use mathlib.Core.Path.{_≡_, sym, ap, _∙_}
 use mathlib.Core.Bool.{true}
 use mathlib.Core.List.{List}

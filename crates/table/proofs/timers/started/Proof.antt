@@ -1,5 +1,4 @@
 -- The two sets are those of the definition.
--- Assumes nothing.
 use borrow.Author.Needs.{needs}
 use Rattle.table.proofs.timers.started.Statement.{statement}
 use Rattle.table.proofs.timers.started.Tie as tie

@@ -1,6 +1,6 @@
 -- The table of the code is that of the definition; side and state are below its sizes.
--- Assumes nothing.
-use Rattle.table.proofs.Laws.{side-below, state-below}
+use Rattle.table.proofs.Laws.{side-below}
+use Rattle.table.proofs.States.{state-below}
 use borrow.Author.Needs.{needs}
 use native.Mathlib.Omega.{arith}
 use Rattle.table.proofs.timers.timer_set.Statement.{statement}

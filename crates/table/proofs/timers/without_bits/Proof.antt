@@ -1,5 +1,4 @@
 -- What two sets share is at most the first, so the difference does not wrap.
--- Assumes nothing.
 use lib.Bits.{and-le-l}
 use borrow.Author.Needs.{needs}
 use Rattle.table.proofs.timers.without_bits.Statement.{statement}

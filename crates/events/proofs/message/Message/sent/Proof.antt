@@ -1,5 +1,4 @@
 -- The four fields by the contracts of the calls, the latest first.
--- Assumes nothing.
 use borrow.Author.Needs.{needs}
 use Rattle.events.proofs.message.Message.sent.Statement.{statement}
 use Rattle.events.proofs.message.Message.sent.Tie as tie

@@ -1,5 +1,4 @@
 -- A pickrequ's refusal by the contract of `of_pick_request`; the rest are constants.
--- Assumes nothing.
 use borrow.Author.Needs.{needs}
 use Rattle.events.proofs.refusal.Refusal.message.Statement.{statement}
 use Rattle.events.proofs.refusal.Refusal.message.Tie as tie

@@ -1,5 +1,4 @@
 -- The timers of the members passed are those of the definition, and the array has its length.
--- Assumes nothing.
 use mathlib.Core.Path.{_≡_, refl, sym, ap, _∙_}
 use mathlib.Core.Bool.{false}
 use mathlib.Core.List.{map}

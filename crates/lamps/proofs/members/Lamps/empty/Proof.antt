@@ -1,5 +1,4 @@
 -- Each place has the lamp that no request was sent at.
--- Assumes nothing.
 use borrow.Author.Needs.{needs}
 use Rattle.lamps.proofs.members.Lamps.empty.Statement.{statement}
 use Rattle.lamps.proofs.members.Lamps.empty.Tie as tie

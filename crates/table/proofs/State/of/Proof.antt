@@ -1,8 +1,7 @@
 -- Each arm's number decides the definition's tests up to it.
--- Assumes nothing.
 use borrow.Author.Tests.{ne-eqb}
-use Rattle.lent.proofs.octets.state_of.Statement.{statement}
-use Rattle.lent.proofs.octets.state_of.Tie as tie
+use Rattle.table.proofs.State.of.Statement.{statement}
+use Rattle.table.proofs.State.of.Tie as tie
 
 returns : tie.Need-returns
 returns c = rw (c .match .keys1)
@@ -29,5 +28,5 @@ returns-6 c =
       ne-eqb _ 4 (c .match .rest .1),
     )
 
-pub state-of-spec : {M : Type 1} → statement M
-state-of-spec = tie.close (tie.spec returns returns-2 returns-3 returns-4 returns-5 returns-6)
+pub of-spec : {M : Type 1} → statement M
+of-spec = tie.close (tie.spec returns returns-2 returns-3 returns-4 returns-5 returns-6)
