@@ -4,7 +4,7 @@
 # Holds the Mermaid pictures in Markdown files to what they show. A picture is known by its second line:
 #   %% picture: position    the machine of a park position: the accepted rows of crates/machine/stdout
 #   %% picture: line        the machine of an alerting line: the same
-#   %% picture: crates      crates.txt, with the crates vectors_* as the one box vectors
+#   %% picture: crates      crates.txt
 # Each row and each entry is written as the one line that would draw it, and each line of a picture is taken apart
 # into such lines, so that to compare is to compare text. The files must have the three pictures between them.
 cd "$(dirname "$0")/.." || exit 2
@@ -61,7 +61,6 @@ function sent(first, second) {
 function entry(    from, i) {
     sub(/:/, " ")
     from = $1
-    sub(/^vectors_.*/, "vectors", from)
     want["crates", from]
     for (i = 2; i <= NF; i++) { want["crates", $i]; want["crates", from " --> " $i] }
 }
