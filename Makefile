@@ -1,21 +1,32 @@
-.PHONY: test run example install bench
+.PHONY: test run example install bench runs
 
 PREFIX ?= /usr/local
 LIBRARY = target/staticlib/libentry.a
 PROGRAM = target/bin/parkline
 LAMPLINE = target/bin/lampline
 
-# the gate: C tests, proofs from nothing, must-fail edits, programs
+# What Rattle compiles is for x86-64. On any other machine an emulator runs it, and C is compiled by a compiler for x86-64.
+ifneq ($(shell uname -m),x86_64)
+ifeq ($(origin CC),default)
+CC = x86_64-linux-gnu-gcc
+endif
+endif
+
+# the gate: C tests, comparisons, proofs from nothing, must-fail edits, programs
 test:
 	.ci/run
 
+# says what is missing where an x86-64 program cannot be compiled and run
+runs:
+	@.ci/x86-64.sh look
+
 # the session of the scope paper: its five event lines, and the answers
-run:
+run: runs
 	rt check parkline
 	target/bin/parkline < crates/parkline/stdin
 
 # the example host in C, on its script of events
-example: target/host
+example: runs target/host
 	target/host < examples/c/script.txt
 
 target/host: examples/c/host.c include/park.h $(LIBRARY)
@@ -33,8 +44,10 @@ install: $(LIBRARY) $(PROGRAM)
 	install -m 644 man/park_step.3 $(INSTALLED)/share/man/man3/park_step.3
 	install -m 644 man/park_bad_field.3 $(INSTALLED)/share/man/man3/park_bad_field.3
 
-# the library and the programs beside the peer's, as one table in Markdown; cargo bench builds in release mode
+# The library and the programs beside the peer's, as one table in Markdown; cargo bench builds in release mode. Under an emulator a time says
+# nothing, and valgrind, which counts the instructions, cannot run.
 bench: $(LIBRARY) $(PROGRAM) $(LAMPLINE)
+	@[ "$$(uname -m)" = x86_64 ] || { echo "make bench measures, and needs an x86-64 machine; this one is $$(uname -m)" >&2; exit 1; }
 	@cd tests/peer && cargo bench --offline --bench park
 
 $(LIBRARY):
