@@ -47,7 +47,8 @@ if [ "$(uname -m)" != x86_64 ]; then
   if [ "${1:-}" = look ]; then
     x86_64_runs || { x86_64_missing; exit 1; }
   else
-    if ! x86_64_runs rust > /dev/null && [ "$(id -u)" = 0 ]; then x86_64_set_up; fi
+    # whatever fails in setting up, the second look tells
+    x86_64_runs rust > /dev/null || [ "$(id -u)" != 0 ] || x86_64_set_up || true
     x86_64_runs rust || { x86_64_missing; exit 1; }
     export CC=x86_64-linux-gnu-gcc RUSTC=/usr/bin/rustc RUSTDOC=/usr/bin/rustdoc
     export CARGO_BUILD_TARGET=x86_64-unknown-linux-gnu CARGO_TARGET_X86_64_UNKNOWN_LINUX_GNU_LINKER=x86_64-linux-gnu-gcc
