@@ -1,8 +1,9 @@
 //! The speed of the product beside the peer's, as one table in Markdown: `park_step` within this process, and the
-//! programs on long streams. `park_step` and `parkline` keep the table as its image, `lampline` has it by value.
+//! programs on long streams. `park_step` and `parkline` keep the table as its image; `lampline` hands a table from line
+//! to line, and each event steps it at its image in a local array.
 //!
 //! A time is the least of many short rounds in which both sides take turns, so that whatever else the machine does
-//! falls on both and mostly drops out. The instructions are callgrind's counts, which repeat.
+//! falls on both and mostly drops out. The instructions are callgrind's counts, or another counter's, which repeat.
 
 // The query on a line is compared, but not measured.
 #[allow(dead_code)]
@@ -33,9 +34,9 @@ const PROGRAM_RUNS: usize = 15;
 const STREAM_LINES: usize = 200_000;
 /// `lampline` reads a mebioctet at most.
 const LAMP_LINES: usize = 15_000;
-/// Valgrind runs the first lines of a stream, one in so many of the whole.
+/// The counter runs the first lines of a stream, one in so many of the whole.
 const COUNTED_SHARE: usize = 10;
-/// Valgrind runs so many events and the double; the difference leaves only those in between. The start of a process
+/// The counter runs so many events and the double; the difference leaves only those in between. The start of a process
 /// takes some hundred instructions more or less from one run to the next.
 const COUNTED_EVENTS: usize = 300;
 
@@ -327,7 +328,7 @@ struct Programs {
     paths: [PathBuf; 2],
     lines: usize,
     stream: PathBuf,
-    /// The first lines of the stream, for valgrind.
+    /// The first lines of the stream, for the counter.
     short_stream: PathBuf,
 }
 
@@ -414,25 +415,32 @@ fn open(stream: &Path) -> Stdio {
     File::open(stream).expect("the stream was written").into()
 }
 
-/// The instructions of a whole process, or nothing where valgrind is missing. The environment lies above the stack and
-/// moves it, and how many a long copy or fill takes depends on where it lies, by 16 octets: the smaller count stands.
+/// Runs the program whose command line follows, and says on standard error `Collected : N`, its instructions. Where
+/// valgrind cannot run the programs, the variable PARK_COUNTER names another such command.
+const CALLGRIND: &str = "valgrind --tool=callgrind --callgrind-out-file=/dev/null";
+
+/// The instructions of a whole process, or nothing where the counter is missing. The environment lies above the stack
+/// and moves it, and how many a long copy or fill takes depends on where it lies, by 16 octets: the smaller count
+/// stands.
 fn count_instructions(program: &Path, arguments: &[&str], input: impl Fn() -> Stdio) -> Option<f64> {
     let [one, other] = ["", "sixteen octets.."].map(|pad| count_with(program, arguments, input(), pad));
     Some(f64::min(one?, other?))
 }
 
 fn count_with(program: &Path, arguments: &[&str], input: Stdio, pad: &str) -> Option<f64> {
-    let mut valgrind = Command::new("valgrind");
-    valgrind.env_clear().envs(std::env::var_os("PATH").map(|path| ("PATH", path))).env("PAD", pad);
+    let own = std::env::var("PARK_COUNTER");
+    let mut words = own.as_deref().unwrap_or(CALLGRIND).split(' ');
+    let mut counter = Command::new(words.next().expect("a first word"));
+    counter.env_clear().envs(std::env::var_os("PATH").map(|path| ("PATH", path))).env("PAD", pad);
     // Callgrind counts an instruction for each octet of a `rep stosb`, by which glibc fills long buffers where the
     // processor has ERMS. Without ERMS the vectors that fill the buffer are counted instead.
-    valgrind.env("GLIBC_TUNABLES", "glibc.cpu.hwcaps=-ERMS");
-    valgrind.args(["--tool=callgrind", "--callgrind-out-file=/dev/null"]).arg(program).args(arguments);
-    let output = match valgrind.stdin(input).stdout(Stdio::null()).output() {
+    counter.env("GLIBC_TUNABLES", "glibc.cpu.hwcaps=-ERMS");
+    counter.args(words).arg(program).args(arguments);
+    let output = match counter.stdin(input).stdout(Stdio::null()).output() {
         Err(error) if error.kind() == ErrorKind::NotFound => return None,
-        other => other.expect("valgrind can be started"),
+        other => other.expect("the counter can be started"),
     };
     let report = String::from_utf8_lossy(&output.stderr);
     let count = report.lines().find_map(|line| line.split_once("Collected :")?.1.trim().parse().ok());
-    Some(count.unwrap_or_else(|| panic!("no count from valgrind: {report}")))
+    Some(count.unwrap_or_else(|| panic!("no count: {report}")))
 }

@@ -6,28 +6,31 @@ use Rattle.lampline.proofs.put_octets.Statement.{statement}
 use Rattle.lampline.proofs.put_octets.Tie as tie
 
 abbrev Inv-loop : tie.InvT-loop
-Inv-loop octets width i₀ i = i ≤ length octets
+Inv-loop out₀ at octets width p₀ i₀ out p i = i ≤ length octets
 
 abbrev μ-loop : tie.MeasureT-loop
-μ-loop octets width i₀ i = length octets - i
+μ-loop out₀ at octets width p₀ i₀ out p i = length octets - i
 
-slice-aggregate-put : tie.Need-slice-aggregate-put Inv-loop μ-loop
-slice-aggregate-put c = search needs
-
-put-requires : tie.Need-put-requires Inv-loop μ-loop
-put-requires c κs = search needs
+put-octet-requires : tie.Need-put-octet-requires Inv-loop μ-loop
+put-octet-requires c κs = search needs
 
 loop-holds : tie.Need-loop-holds Inv-loop μ-loop
 loop-holds c = search needs
 
-shared-slice-read-wide : tie.Need-shared-slice-read-wide Inv-loop μ-loop
-shared-slice-read-wide c = search needs
+shared-slice-read-octet : tie.Need-shared-slice-read-octet Inv-loop μ-loop
+shared-slice-read-octet c = search needs
 
-wide-requires : tie.Need-wide-requires Inv-loop μ-loop
-wide-requires c κs = search needs
+digit-requires : tie.Need-digit-requires Inv-loop μ-loop
+digit-requires c κs = search needs
 
-print-hex-requires : tie.Need-print-hex-requires Inv-loop μ-loop
-print-hex-requires c κs = search needs
+put-octet-requires-2 : tie.Need-put-octet-requires-2 Inv-loop μ-loop
+put-octet-requires-2 c κs = search needs
+
+digit-requires-2 : tie.Need-digit-requires-2 Inv-loop μ-loop
+digit-requires-2 c κs = search needs
+
+put-octet-requires-3 : tie.Need-put-octet-requires-3 Inv-loop μ-loop
+put-octet-requires-3 c κs = search needs
 
 add-i : tie.Need-add-i Inv-loop μ-loop
 add-i c = search needs
@@ -47,12 +50,13 @@ put-octets-spec =
     (tie.spec
     Inv-loop
     μ-loop
-    slice-aggregate-put
-    put-requires
+    put-octet-requires
     loop-holds
-    shared-slice-read-wide
-    wide-requires
-    print-hex-requires
+    shared-slice-read-octet
+    digit-requires
+    put-octet-requires-2
+    digit-requires-2
+    put-octet-requires-3
     add-i
     loop-less
     loop-again

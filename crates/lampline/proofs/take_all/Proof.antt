@@ -6,10 +6,10 @@ use Rattle.lampline.proofs.take_all.Statement.{statement}
 use Rattle.lampline.proofs.take_all.Tie as tie
 
 abbrev Inv-loop : tie.InvT-loop
-Inv-loop text s₀ at₀ s at = Unit {0}
+Inv-loop text out₀ s₀ from₀ at₀ out s from at = Unit {0}
 
 abbrev μ-loop : tie.MeasureT-loop
-μ-loop text s₀ at₀ s at = length text - at
+μ-loop text out₀ s₀ from₀ at₀ out s from at = length text - from
 
 empty-requires : tie.Need-empty-requires Inv-loop μ-loop
 empty-requires c κs = search needs
@@ -32,14 +32,17 @@ part-take-line-end c = search needs
 take-line-requires : tie.Need-take-line-requires Inv-loop μ-loop
 take-line-requires c κs = search needs
 
-add-at : tie.Need-add-at Inv-loop μ-loop
-add-at c = search needs
+add-from : tie.Need-add-from Inv-loop μ-loop
+add-from c = search needs
 
 loop-less : tie.Need-loop-less Inv-loop μ-loop
 loop-less c = search needs
 
 loop-again : tie.Need-loop-again Inv-loop μ-loop
 loop-again c = search needs
+
+flush-requires : tie.Need-flush-requires Inv-loop μ-loop
+flush-requires c κs = search needs
 
 returns : tie.Need-returns Inv-loop μ-loop
 returns c = search needs
@@ -57,7 +60,8 @@ take-all-spec =
     part-take-line-start
     part-take-line-end
     take-line-requires
-    add-at
+    add-from
     loop-less
     loop-again
+    flush-requires
     returns)
