@@ -2,14 +2,12 @@
 // defined in specs/, from document 01's "Lines, image, status"; the query is that of `lines`.
 
 ghost use mathlib.Core.Path.{_≡_};
-ghost use Prim.Native.Nat.{_≤_};
-ghost use Rattle.lines.specs.AnswerLine.{answerRoom};
 ghost use Rattle.lines.specs.EventLine.{badField};
-ghost use Rattle.entry.specs.Entry.{countOf, imageAfter, answerAfter};
+ghost use Rattle.entry.specs.Entry.{ParkStep};
 
 #[no_mangle]
 pub extern "C" fn park_step(image: &mut [u8], line: &[u8], answer: &mut [u8]) -> usize
-    ensures { λ r. ⌜ (r ≡ countOf (now (image .entry)) (now (line .entry)) (now (answer .entry))) × (now (image .exit) ≡ imageAfter (now (image .entry)) (now (line .entry)) (now (answer .entry))) × (now (answer .exit) ≡ answerAfter (now (image .entry)) (now (line .entry)) (now (answer .entry))) × (r ≤ answerRoom) ⌝ }
+    ensures { λ r. ⌜ ParkStep (now (image .entry)) (now (line .entry)) (now (answer .entry)) r (now (image .exit)) (now (answer .exit)) ⌝ }
 {
     if answer.len() < lines::ANSWER_ROOM {
         return 0;

@@ -1,4 +1,4 @@
--- The messages (document 01, "Messages: .."): the paper's number of each, and the fields of an answer that it fills.
+-- The messages (document 01, "Messages: .."): what each fills of an answer, one line each.
 use Prim.Native.Nat.{ℕ}
 use Rattle.table.specs.declared.Connection.{Connection}
 use Rattle.table.specs.declared.Invoke.{Invoke}
@@ -9,56 +9,24 @@ use Rattle.events.specs.declared.message.Sent.{Sent}
 use Rattle.events.specs.declared.message.ErrorValue.{ErrorValue}
 use Rattle.events.specs.declared.message.ErrorValue.the-variants.{Undefined, CallAlreadyPickedUp}
 
--- "0 none; 1 PROGRESS with cpSetup Return Result; 2 cpSetup Return Error; 3 CONNECT with pickup Invoke; 4 FACILITY with pickup
--- Invoke; 5 pickrequ Return Result; 6 pickrequ Return Error; 7 RELEASE COMPLETE on the held call"
-abbrev pub messageNumber : Message → ℕ
-messageNumber NoMessage = 0
-messageNumber ParkResult = 1
-messageNumber ParkError = 2
-messageNumber (Connect n) = 3
-messageNumber (Facility n) = 4
-messageNumber (PickResult c) = 5
-messageNumber (PickError c x) = 6
-messageNumber ReleaseComplete = 7
-
--- "Connection, the picker's, is set only with messages 5 and 6"
-abbrev pub messageConnection : Message → Connection
-messageConnection NoMessage = noConnection
-messageConnection ParkResult = noConnection
-messageConnection ParkError = noConnection
-messageConnection (Connect n) = noConnection
-messageConnection (Facility n) = noConnection
-messageConnection (PickResult c) = c
-messageConnection (PickError c x) = c
-messageConnection ReleaseComplete = noConnection
-
--- ".. invoke, the count, only with 3 and 4"
-abbrev pub messageInvoke : Message → Invoke
-messageInvoke NoMessage = noInvoke
-messageInvoke ParkResult = noInvoke
-messageInvoke ParkError = noInvoke
-messageInvoke (Connect n) = n
-messageInvoke (Facility n) = n
-messageInvoke (PickResult c) = noInvoke
-messageInvoke (PickError c x) = noInvoke
-messageInvoke ReleaseComplete = noInvoke
-
 -- "Errors (house numbers): 0 none, 1 undefined, 2 callAlreadyPickedUp."
 abbrev pub errorNumber : ErrorValue → ℕ
 errorNumber Undefined = 1
 errorNumber CallAlreadyPickedUp = 2
 
--- "Message 2 carries 1. Message 6 carries 1, but 2 with refusal 7."
-abbrev pub messageError : Message → ℕ
-messageError NoMessage = 0
-messageError ParkResult = 0
-messageError ParkError = errorNumber Undefined
-messageError (Connect n) = 0
-messageError (Facility n) = 0
-messageError (PickResult c) = 0
-messageError (PickError c x) = errorNumber x
-messageError ReleaseComplete = 0
+-- the fields of an answer that a message fills: its number, connection, invoke and error
+abbrev pub fields : ℕ → Connection → Invoke → ℕ → Sent
+fields message connection invoke error = record { message = message; connection = connection; invoke = invoke; error = error }
 
--- a message as the fields of an answer that it fills
+-- "0 none; 1 PROGRESS with cpSetup Return Result; 2 cpSetup Return Error; 3 CONNECT with pickup Invoke; 4 FACILITY with pickup
+-- Invoke; 5 pickrequ Return Result; 6 pickrequ Return Error; 7 RELEASE COMPLETE on the held call". "Connection, the picker's, is set only with
+-- messages 5 and 6, invoke, the count, only with 3 and 4." "Message 2 carries 1. Message 6 carries 1, but 2 with refusal 7."
 abbrev pub sent : Message → Sent
-sent m = record { message = messageNumber m; connection = messageConnection m; invoke = messageInvoke m; error = messageError m }
+sent NoMessage = fields 0 noConnection noInvoke 0
+sent ParkResult = fields 1 noConnection noInvoke 0
+sent ParkError = fields 2 noConnection noInvoke (errorNumber Undefined)
+sent (Connect n) = fields 3 noConnection n 0
+sent (Facility n) = fields 4 noConnection n 0
+sent (PickResult c) = fields 5 c noInvoke 0
+sent (PickError c x) = fields 6 c noInvoke (errorNumber x)
+sent ReleaseComplete = fields 7 noConnection noInvoke 0

@@ -3,7 +3,8 @@
 use table::Connection;
 use table::Invoke;
 ghost use mathlib.Core.Path.{_≡_};
-ghost use Rattle.events.specs.Message.{messageNumber, messageConnection, messageInvoke, messageError, errorNumber, sent};
+ghost use Rattle.table.specs.Places.{noConnection, noInvoke};
+ghost use Rattle.events.specs.Message.{errorNumber, fields, sent};
 
 pub enum ErrorValue {
     Undefined,
@@ -49,79 +50,53 @@ impl ErrorValue {
 }
 
 impl Message {
-    // The paper's number.
-    pub(crate) fn number(self) -> u8
-        ensures { λ r. ⌜ r ≡ messageNumber self ⌝ }
-    {
-        match self {
-            Message::NoMessage => 0,
-            Message::ParkResult => 1,
-            Message::ParkError => 2,
-            Message::Connect(_) => 3,
-            Message::Facility(_) => 4,
-            Message::PickResult(_) => 5,
-            Message::PickError(_, _) => 6,
-            Message::ReleaseComplete => 7,
-        }
-    }
-
-    // The picker's connection, where the message goes to the picker.
-    pub(crate) fn connection(self) -> Connection
-        ensures { λ r. ⌜ r ≡ messageConnection self ⌝ }
-    {
-        match self {
-            Message::NoMessage => Connection(0),
-            Message::ParkResult => Connection(0),
-            Message::ParkError => Connection(0),
-            Message::Connect(_) => Connection(0),
-            Message::Facility(_) => Connection(0),
-            Message::PickResult(c) => c,
-            Message::PickError(c, _) => c,
-            Message::ReleaseComplete => Connection(0),
-        }
-    }
-
-    // The number of the pickup Invoke, where the message carries one.
-    pub(crate) fn invoke(self) -> Invoke
-        ensures { λ r. ⌜ r ≡ messageInvoke self ⌝ }
-    {
-        match self {
-            Message::NoMessage => Invoke(0),
-            Message::ParkResult => Invoke(0),
-            Message::ParkError => Invoke(0),
-            Message::Connect(n) => n,
-            Message::Facility(n) => n,
-            Message::PickResult(_) => Invoke(0),
-            Message::PickError(_, _) => Invoke(0),
-            Message::ReleaseComplete => Invoke(0),
-        }
-    }
-
-    // The error, where the message reports one.
-    pub(crate) fn error(self) -> u8
-        ensures { λ r. ⌜ r ≡ messageError self ⌝ }
-    {
-        match self {
-            Message::NoMessage => 0,
-            Message::ParkResult => 0,
-            Message::ParkError => ErrorValue::Undefined.number(),
-            Message::Connect(_) => 0,
-            Message::Facility(_) => 0,
-            Message::PickResult(_) => 0,
-            Message::PickError(_, x) => x.number(),
-            Message::ReleaseComplete => 0,
-        }
-    }
-
-    // The four fields.
+    // The fields that the message fills, with the paper's number.
     pub(crate) fn sent(self) -> Sent
         ensures { λ r. ⌜ r ≡ sent self ⌝ }
     {
-        Sent {
-            message: self.number(),
-            connection: self.connection(),
-            invoke: self.invoke(),
-            error: self.error(),
+        match self {
+            Message::NoMessage => plain(0),
+            Message::ParkResult => plain(1),
+            Message::ParkError => Sent {
+                message: 2,
+                connection: Connection(0),
+                invoke: Invoke(0),
+                error: ErrorValue::Undefined.number(),
+            },
+            Message::Connect(n) => with_invoke(3, n),
+            Message::Facility(n) => with_invoke(4, n),
+            Message::PickResult(c) => Sent {
+                message: 5,
+                connection: c,
+                invoke: Invoke(0),
+                error: 0,
+            },
+            Message::PickError(c, x) => Sent {
+                message: 6,
+                connection: c,
+                invoke: Invoke(0),
+                error: x.number(),
+            },
+            Message::ReleaseComplete => plain(7),
         }
+    }
+}
+
+// A message that carries nothing.
+fn plain(message: u8) -> Sent
+    ensures { λ r. ⌜ r ≡ fields message noConnection noInvoke 0 ⌝ }
+{
+    with_invoke(message, Invoke(0))
+}
+
+// A message that carries the number of a pickup Invoke.
+fn with_invoke(message: u8, invoke: Invoke) -> Sent
+    ensures { λ r. ⌜ r ≡ fields message noConnection invoke 0 ⌝ }
+{
+    Sent {
+        message,
+        connection: Connection(0),
+        invoke,
+        error: 0,
     }
 }

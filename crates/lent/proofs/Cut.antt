@@ -22,27 +22,27 @@ use Rattle.lent.specs.Lent.{stepOn, leftOn}
 use Rattle.lent.proofs.Tables.{Good, on-image, left-image, line-good, empty-good, empty-image}
 use Rattle.lent.specs.declared.session.Session.{Session}
 use Rattle.lent.specs.Stream.{lastLine, linesFrom, answersFrom}
-use Rattle.lent.specs.Session.{started, pending, endLine, keep, restart, next, saysTo, after, said, saidLast, joinedPieces, saidToAll, CutAnyhow}
+use Rattle.lent.specs.Session.{started, pending, endLine, keep, restart, next, saysTo, afterPiece, said, saidLast, joinedPieces, saidToAll, CutAnyhow}
 
 -- ---- pieces one after the other
 
-after-append : (s : Session) (p q : List ℕ) → after s (p ++ q) ≡ after (after s p) q
+after-append : (s : Session) (p q : List ℕ) → afterPiece s (p ++ q) ≡ afterPiece (afterPiece s p) q
 after-append s [] q = refl
 after-append s (o ∷ p) q = after-append (next s o) p q
 
-said-append : (s : Session) (p q : List ℕ) → said s (p ++ q) ≡ said s p ++ said (after s p) q
+said-append : (s : Session) (p q : List ℕ) → said s (p ++ q) ≡ said s p ++ said (afterPiece s p) q
 said-append s [] q = refl
-said-append s (o ∷ p) q = ap (λ x. saysTo s o ++ x) (said-append (next s o) p q) ∙ sym (append-assoc (saysTo s o) (said (next s o) p) (said (after (next s o) p) q))
+said-append s (o ∷ p) q = ap (λ x. saysTo s o ++ x) (said-append (next s o) p q) ∙ sym (append-assoc (saysTo s o) (said (next s o) p) (said (afterPiece (next s o) p) q))
 
 -- what is said to a whole stream, and at its end
 abbrev whole : Session → List ℕ → List ℕ
-whole s stream = said s stream ++ saidLast (after s stream)
+whole s stream = said s stream ++ saidLast (afterPiece s stream)
 
 pieces-whole : (s : Session) (ps : List (List ℕ)) → saidToAll s ps ≡ whole s (joinedPieces ps)
 pieces-whole s [] = refl
 pieces-whole s (p ∷ ps) =
-    ap (λ x. said s p ++ x) (pieces-whole (after s p) ps)
-    ∙ sym (append-assoc (said s p) (said (after s p) (joinedPieces ps)) (saidLast (after (after s p) (joinedPieces ps))))
+    ap (λ x. said s p ++ x) (pieces-whole (afterPiece s p) ps)
+    ∙ sym (append-assoc (said s p) (said (afterPiece s p) (joinedPieces ps)) (saidLast (afterPiece (afterPiece s p) (joinedPieces ps))))
     ∙ rw (said-append s p (joinedPieces ps), after-append s p (joinedPieces ps))
 
 -- ---- a line is read by its first 63 octets
@@ -126,11 +126,11 @@ whole-stream [] s t line h = said-last s t line h
 whole-stream (o ∷ os) s t line h = by (eqb o 10) (whole-stream os)
   where
     by : (b : Bool) → ((u : Session) (v : Table) (l : List ℕ) → Holds u v l → whole u os ≡ answersFrom v (linesFrom l os))
-        → (cond b (answerLine (endLine s .answer)) [] ++ said (cond b (restart s) (keep s o)) os) ++ saidLast (after (cond b (restart s) (keep s o)) os)
+        → (cond b (answerLine (endLine s .answer)) [] ++ said (cond b (restart s) (keep s o)) os) ++ saidLast (afterPiece (cond b (restart s) (keep s o)) os)
         ≡ answersFrom t (cond b (line ∷ linesFrom [] os) (linesFrom (line ++ (o ∷ [])) os))
     by true later =
         let rest = later (restart s) (lineStep t line .table) [] (restart-holds s t line h) in
-        append-assoc (answerLine (endLine s .answer)) (said (restart s) os) (saidLast (after (restart s) os))
+        append-assoc (answerLine (endLine s .answer)) (said (restart s) os) (saidLast (afterPiece (restart s) os))
         ∙ ap (λ x. answerLine (endLine s .answer) ++ x) rest
         ∙ ap (λ r. answerLine (r .answer) ++ answersFrom (lineStep t line .table) (linesFrom [] os)) (held-step s t line h)
     by false later = later (keep s o) t (line ++ (o ∷ [])) (keep-holds s t line h o)

@@ -9,7 +9,7 @@ use lib.Seq.{sets, length-sets}
 use Rattle.laws.proofs.Runs.{sets-append}
 use Rattle.lines.specs.AnswerLine.{answerLine, answerRoom}
 use Rattle.lent.specs.declared.session.Session.{Session}
-use Rattle.lent.specs.Session.{endLine, restart, after, said}
+use Rattle.lent.specs.Session.{endLine, restart, afterPiece, said}
 use Rattle.lent.specs.Keep.{untilFeed}
 use Rattle.lent.proofs.KeepLaws.{keptBy, kept-size, feed-after, feed-said, last-after, last-said}
 
@@ -19,7 +19,7 @@ pub record Feeding (piece out₀ : List ℕ) (s₀ s : Session) (out : List ℕ)
   pub size : length (s .kept) ≡ 63
   pub same : length out ≡ length out₀
   pub room : at ≤ answerRoom * i
-  pub session : after s (drop i piece) ≡ after s₀ piece
+  pub session : afterPiece s (drop i piece) ≡ afterPiece s₀ piece
   pub count : at + length (said s (drop i piece)) ≡ length (said s₀ piece)
   pub text : sets out at (said s (drop i piece)) ≡ sets out₀ 0 (said s₀ piece)
 
@@ -39,7 +39,7 @@ module _ (piece out₀ : List ℕ) (s₀ : Session) where
     abbrev now : Session
     now = keptBy s (drop i piece)
 
-    pub feeding-end : length piece ≤ e → (now ≡ after s₀ piece) × (at ≡ length (said s₀ piece)) × (out ≡ sets out₀ 0 (said s₀ piece))
+    pub feeding-end : length piece ≤ e → (now ≡ afterPiece s₀ piece) × (at ≡ length (said s₀ piece)) × (out ≡ sets out₀ 0 (said s₀ piece))
     feeding-end none =
         let quiet = last-said s piece i e there none in (
           sym (last-after s piece i e there none) ∙ f .session,

@@ -13,7 +13,7 @@ use lib.Seq.{sets, drop-cons, getD-drop, drop-drop, take-all, take-nil}
 use borrow.Author.Tests.{eq-eqb, ne-eqb, eqb-true, ltb-true, ltb-false}
 use Rattle.laws.proofs.Runs.{at-step}
 use Rattle.lent.specs.declared.session.Session.{Session}
-use Rattle.lent.specs.Session.{restart, endLine, after, said}
+use Rattle.lent.specs.Session.{restart, endLine, afterPiece, said}
 use Rattle.lent.specs.Keep.{atMost63, keptFrom, lenFrom, untilFeed}
 use Rattle.lines.specs.AnswerLine.{answerLine}
 
@@ -75,14 +75,14 @@ GoesOn s o os b c =
       len = cond b (s .len) (cond c (lenFrom (s .len + 1) os) (lenFrom (s .len) os));
     } in
     let rest : List ℕ = drop (cond b 0 (suc (untilFeed os))) (o ∷ os) in
-    (after u os ≡ after k rest) × (cond b (answerLine (endLine s .answer)) [] ++ said u os ≡ said k rest)
+    (afterPiece u os ≡ afterPiece k rest) × (cond b (answerLine (endLine s .answer)) [] ++ said u os ≡ said k rest)
 
 -- a session that has kept the line's octets goes on at its feed
-pub kept-goes-on : (s : Session) (os : List ℕ) → (after s os ≡ after (keptBy s os) (drop (untilFeed os) os)) × (said s os ≡ said (keptBy s os) (drop (untilFeed os) os))
+pub kept-goes-on : (s : Session) (os : List ℕ) → (afterPiece s os ≡ afterPiece (keptBy s os) (drop (untilFeed os) os)) × (said s os ≡ said (keptBy s os) (drop (untilFeed os) os))
 kept-goes-on s [] = (refl, refl)
 kept-goes-on s (o ∷ os) = by (eqb o 10) (ltb (s .len) 63) refl refl (λ u. kept-goes-on u os)
   where
-    by : (b c : Bool) → eqb o 10 ≡ b → ltb (s .len) 63 ≡ c → ((u : Session) → (after u os ≡ after (keptBy u os) (drop (untilFeed os) os)) × (said u os ≡ said (keptBy u os) (drop (untilFeed os) os))) → GoesOn s o os b c
+    by : (b c : Bool) → eqb o 10 ≡ b → ltb (s .len) 63 ≡ c → ((u : Session) → (afterPiece u os ≡ afterPiece (keptBy u os) (drop (untilFeed os) os)) × (said u os ≡ said (keptBy u os) (drop (untilFeed os) os))) → GoesOn s o os b c
     by true c q r later = (rw q, rw q)
     by false true q r later = later (record { image = s .image; kept = set (s .kept) (s .len) o; len = s .len + 1 })
     by false false q r later = later s
@@ -129,8 +129,8 @@ module _ (s : Session) (piece : List ℕ) (i e : ℕ) (there : e ≡ i + untilFe
   from-there : drop (untilFeed (drop i piece)) (drop i piece) ≡ drop e piece
   from-there = drop-drop (untilFeed (drop i piece)) i piece ∙ rw (← there)
 
-  pub line-after : after s (drop i piece) ≡ after (keptBy s (drop i piece)) (drop e piece)
-  line-after = kept-goes-on s (drop i piece) .0 ∙ ap (after (keptBy s (drop i piece))) from-there
+  pub line-after : afterPiece s (drop i piece) ≡ afterPiece (keptBy s (drop i piece)) (drop e piece)
+  line-after = kept-goes-on s (drop i piece) .0 ∙ ap (afterPiece (keptBy s (drop i piece))) from-there
 
   pub line-said : said s (drop i piece) ≡ said (keptBy s (drop i piece)) (drop e piece)
   line-said = kept-goes-on s (drop i piece) .1 ∙ ap (said (keptBy s (drop i piece))) from-there
@@ -142,7 +142,7 @@ module _ (s : Session) (piece : List ℕ) (i e : ℕ) (there : e ≡ i + untilFe
         let octet : getD piece e 0 ≡ 10 = rw there (sym (getD-drop i piece (untilFeed (drop i piece)) 0) ∙ feed-found (drop i piece) short) in
         rw (add-one e) (drop-cons piece e 0 inside ∙ ap (λ o. o ∷ drop (suc e) piece) octet)
 
-    pub feed-after : after s (drop i piece) ≡ after (restart (keptBy s (drop i piece))) (drop (e + 1) piece)
+    pub feed-after : afterPiece s (drop i piece) ≡ afterPiece (restart (keptBy s (drop i piece))) (drop (e + 1) piece)
     feed-after = line-after ∙ rw feed-there
 
     pub feed-said : said s (drop i piece) ≡ answerLine (endLine (keptBy s (drop i piece)) .answer) ++ said (restart (keptBy s (drop i piece))) (drop (e + 1) piece)
@@ -152,7 +152,7 @@ module _ (s : Session) (piece : List ℕ) (i e : ℕ) (there : e ≡ i + untilFe
     nothing-there : drop e piece ≡ []
     nothing-there = drop-of-length-le piece out
 
-    pub last-after : after s (drop i piece) ≡ keptBy s (drop i piece)
+    pub last-after : afterPiece s (drop i piece) ≡ keptBy s (drop i piece)
     last-after = line-after ∙ rw nothing-there
 
     pub last-said : said s (drop i piece) ≡ []

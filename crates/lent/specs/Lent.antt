@@ -1,5 +1,6 @@
 -- A table that is kept as its image, in octets that the caller lends: the line at an image (`stepOn`, `leftOn`), and what the code does
 -- octet by octet, for any octets. `proofs/Kept.antt` shows that at the image of a sound table the two agree.
+use mathlib.Core.Path.{_≡_}
 use mathlib.Core.Bool.{cond}
 use mathlib.Core.List.{List}
 use Prim.Native.Nat.{ℕ}
@@ -16,7 +17,7 @@ use Rattle.step.specs.declared.Step.{Step}
 use Rattle.step.specs.declared.aim.Aim.{Aim}
 use Rattle.step.specs.declared.aim.Aim.the-variants.{To, Nowhere}
 use Rattle.step.specs.Aim.{aim}
-use Rattle.step.specs.Step.{stepAny}
+use Rattle.step.specs.Step.{carriedOut, stepAny}
 use Rattle.lent.specs.LineStep.{lineStep}
 use Rattle.image.specs.declared.ReadImage.{ReadImage}
 use Rattle.image.specs.Image.{imageOf, placePut, tableFrom, readImage}
@@ -34,6 +35,10 @@ stepOn image line = stepAt (readImage image) line
 abbrev pub leftOn : List ℕ → List ℕ → List ℕ
 leftOn image line = cond (eqb (stepOn image line .answer .number) 0) (imageOf (stepOn image line .table)) image
 
+-- What a function gives and leaves that takes a line at an image.
+abbrev pub AnswersLine : List ℕ → List ℕ → Answer → List ℕ → Type 0
+AnswersLine image line answer after = (answer ≡ stepOn image line .answer) × (after ≡ leftOn image line)
+
 -- ---- octet by octet
 
 -- what an event leaves at a place is put there where it is accepted
@@ -50,3 +55,10 @@ eventAnswer image e = stepAny (tableFrom image) e .answer
 
 abbrev pub eventImage : List ℕ → Event → List ℕ
 eventImage image e = leftFor image e (aim (ruleOf (e .kind)) (tableFrom image) e)
+
+-- What a function gives and leaves that carries an event out for an aim, or at a place.
+abbrev pub CarriesOut : List ℕ → Event → Aim → Answer → List ℕ → Type 0
+CarriesOut image e a answer after = (answer ≡ carriedOut (ruleOf (e .kind)) (tableFrom image) e a .answer) × (after ≡ leftFor image e a)
+
+abbrev pub ActsAt : List ℕ → Event → ℕ → Answer → List ℕ → Type 0
+ActsAt image e i answer after = (answer ≡ acted e i (recordAt (tableFrom image) i) .answer) × (after ≡ writtenAt image i (acted e i (recordAt (tableFrom image) i)))

@@ -3,16 +3,19 @@
 use mathlib.Core.Path.{_≡_}
 use mathlib.Core.Bool.{Bool, true, false, cond}
 use mathlib.Core.List.{List, [], _∷_, _++_}
-use Prim.Native.Nat.{ℕ, _+_, _/_}
+use Prim.Native.Nat.{ℕ, _+_, _/_, _≤_}
 use lib.Dec.{eqb, ltb}
-use lib.ListN.{length, take, set, replicate}
+use lib.ListN.{length, take, drop, set, replicate}
 use lib.Seq.{sets}
-use Rattle.image.specs.Image.{imageOctets}
+use Rattle.image.specs.Image.{imageOctets, isSoundImage}
+use Rattle.events.specs.declared.Answer.{Answer}
 use Rattle.step.specs.declared.Step.{Step}
 use Rattle.lines.specs.AnswerLine.{answerLine, answerRoom}
 use Rattle.lent.specs.Lent.{stepOn, leftOn}
 use Rattle.lent.specs.declared.session.Session.{Session}
 use Rattle.lent.specs.declared.session.Fed.{Fed}
+use Rattle.lent.specs.declared.session.Kept.{Kept}
+use Rattle.lent.specs.Keep.{keptFrom, lenFrom, untilFeed}
 use Rattle.lent.specs.Stream.{answersTo}
 
 abbrev pub started : Session
@@ -41,9 +44,9 @@ abbrev pub saysTo : Session → ℕ → List ℕ
 saysTo s o = cond (eqb o 10) (answerLine (endLine s .answer)) []
 
 -- the session after a piece, and what it says to it
-abbrev pub after : Session → List ℕ → Session
-after s [] = s
-after s (o ∷ os) = after (next s o) os
+abbrev pub afterPiece : Session → List ℕ → Session
+afterPiece s [] = s
+afterPiece s (o ∷ os) = afterPiece (next s o) os
 
 abbrev pub said : Session → List ℕ → List ℕ
 said s [] = []
@@ -61,7 +64,7 @@ isEnough piece out = cond (ltb (length out / answerRoom) (length piece)) false t
 
 abbrev pub fed : Session → List ℕ → List ℕ → Fed
 fed s piece out =
-    cond (isEnough piece out) (record { enough = true; session = after s piece; written = length (said s piece) })
+    cond (isEnough piece out) (record { enough = true; session = afterPiece s piece; written = length (said s piece) })
     (record { enough = false; session = s; written = 0 })
 
 abbrev pub fedOut : Session → List ℕ → List ℕ → List ℕ
@@ -83,8 +86,29 @@ joinedPieces (p ∷ ps) = p ++ joinedPieces ps
 -- what is said to pieces, and at their end
 abbrev pub saidToAll : Session → List (List ℕ) → List ℕ
 saidToAll s [] = saidLast s
-saidToAll s (p ∷ ps) = said s p ++ saidToAll (after s p) ps
+saidToAll s (p ∷ ps) = said s p ++ saidToAll (afterPiece s p) ps
 
 -- `cut-anyhow`: the answers to a stream, however it is cut into pieces
 abbrev pub CutAnyhow : Type 0
 CutAnyhow = (pieces : List (List ℕ)) → saidToAll started pieces ≡ answersTo (joinedPieces pieces)
+
+-- ---- contracts of what a session calls
+
+-- a line at an image of which it is known whether it is sound: no line changes that
+abbrev pub AnswersKnown : Bool → List ℕ → List ℕ → Answer → List ℕ → Type 0
+AnswersKnown sound image line answer after =
+    (answer ≡ stepOn image line .answer) × (after ≡ leftOn image line) × (sound ≡ isSoundImage (leftOn image line))
+
+-- the same, and the answer's line written from an index of a buffer on
+abbrev pub EndsLine : Bool → List ℕ → List ℕ → List ℕ → ℕ → ℕ → List ℕ → List ℕ → Type 0
+EndsLine sound image line out at count after written =
+    (count ≡ length (answerLine (stepOn image line .answer)))
+    × (written ≡ sets out at (answerLine (stepOn image line .answer)))
+    × (count ≤ answerRoom)
+    × (after ≡ leftOn image line)
+    × (sound ≡ isSoundImage (leftOn image line))
+
+-- the octets of the next line kept, of a piece from an index on
+abbrev pub KeepsLine : List ℕ → ℕ → List ℕ → ℕ → Kept → List ℕ → Type 0
+KeepsLine kept len piece from r after =
+    (r ≡ record { len = lenFrom len (drop from piece); end = from + untilFeed (drop from piece) }) × (after ≡ keptFrom kept len (drop from piece))

@@ -11,11 +11,10 @@ ghost use mathlib.Core.Path.{_≡_};
 ghost use Prim.Native.Nat.{_+_, _-_, _≤_, min};
 ghost use lib.ListN.{length, take, drop};
 ghost use lib.Seq.{sets};
-ghost use Rattle.lines.specs.AnswerLine.{answerLine, answerRoom};
+ghost use Rattle.lines.specs.AnswerLine.{answerRoom};
 ghost use Rattle.image.specs.Image.{isSoundImage};
-ghost use Rattle.lent.specs.Lent.{stepOn, leftOn};
-ghost use Rattle.lent.specs.Session.{started, fed, fedOut, finishedOut, finishedCount};
-ghost use Rattle.lent.specs.Keep.{atMost63, keptFrom, lenFrom, untilFeed};
+ghost use Rattle.lent.specs.Session.{started, fed, fedOut, finishedOut, finishedCount, AnswersKnown, EndsLine, KeepsLine};
+ghost use Rattle.lent.specs.Keep.{atMost63, untilFeed};
 
 pub struct Session {
     // the table
@@ -97,7 +96,7 @@ fn keep_octets(kept: &mut [u8; 63], len: usize, piece: &[u8], from: usize, count
 // Keeps the octets from an index on, up to the next line feed or the end of the piece.
 fn keep_line(kept: &mut [u8; 63], len: usize, piece: &[u8], from: usize) -> Kept
     requires { ⌜ from ≤ length (now piece) ⌝ }
-    ensures { λ r. ⌜ (r ≡ record { len = lenFrom len (drop from (now (piece .entry))); end = from + untilFeed (drop from (now (piece .entry))) }) × (now (kept .exit) ≡ keptFrom (now (kept .entry)) len (drop from (now (piece .entry)))) ⌝ }
+    ensures { λ r. ⌜ KeepsLine (now (kept .entry)) len (now (piece .entry)) from r (now (kept .exit)) ⌝ }
 {
     let end = find_feed(piece, from);
     let count = count_kept(len, end - from);
@@ -111,7 +110,7 @@ fn keep_line(kept: &mut [u8; 63], len: usize, piece: &[u8], from: usize) -> Kept
 // Answers a line at the image. Whether it is one of a sound table was found out before, and no line changes that.
 fn answer_at(sound: bool, image: &mut [u8], line: &[u8]) -> Answer
     requires { ⌜ sound ≡ isSoundImage (now image) ⌝ }
-    ensures { λ r. ⌜ (r ≡ stepOn (now (image .entry)) (now (line .entry)) .answer) × (now (image .exit) ≡ leftOn (now (image .entry)) (now (line .entry))) × (sound ≡ isSoundImage (leftOn (now (image .entry)) (now (line .entry)))) ⌝ }
+    ensures { λ r. ⌜ AnswersKnown sound (now (image .entry)) (now (line .entry)) r (now (image .exit)) ⌝ }
 {
     if sound {
         crate::step_line(image, line)
@@ -123,7 +122,7 @@ fn answer_at(sound: bool, image: &mut [u8], line: &[u8]) -> Answer
 // Answers a line, and writes the answer from an index of the buffer on. Gives the count of octets written.
 fn end_line(sound: bool, image: &mut [u8], line: &[u8], out: &mut [u8], at: usize) -> usize
     requires { ⌜ (at + answerRoom ≤ length (now out)) × (sound ≡ isSoundImage (now image)) ⌝ }
-    ensures { λ r. ⌜ (r ≡ length (answerLine (stepOn (now (image .entry)) (now (line .entry)) .answer))) × (now (out .exit) ≡ sets (now (out .entry)) at (answerLine (stepOn (now (image .entry)) (now (line .entry)) .answer))) × (r ≤ answerRoom) × (now (image .exit) ≡ leftOn (now (image .entry)) (now (line .entry))) × (sound ≡ isSoundImage (leftOn (now (image .entry)) (now (line .entry)))) ⌝ }
+    ensures { λ r. ⌜ EndsLine sound (now (image .entry)) (now (line .entry)) (now (out .entry)) at r (now (image .exit)) (now (out .exit)) ⌝ }
 {
     let a = answer_at(sound, image, line);
     lines::write_answer(a, &mut out[at..])

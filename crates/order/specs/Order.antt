@@ -77,8 +77,8 @@ module _ (t : Table) (e : Event) where
   abbrev pub isPickup : Bool
   isPickup = isKind 3 || isKind 4
 
-  abbrev pub isReply : Bool
-  isReply = isKind 5 || isKind 6
+  abbrev pub isReplyKind : Bool
+  isReplyKind = isKind 5 || isKind 6
 
   abbrev pub isLater : Bool
   isLater = leb 5 (e .kind) && leb (e .kind) 10
@@ -108,9 +108,9 @@ module _ (t : Table) (e : Event) where
       ∷ row 11 (byChoice0 && sameState state RemoteRequested)
       ∷ row 12 (byChoice0 && sameState state HandedOver)
       -- kinds 5, 6: state not 3 or 4; kind 9: state not 2
-      ∷ row 8 (isReply && not (isAsked state) || isKind 9 && not (sameState state LineWaiting))
+      ∷ row 8 (isReplyKind && not (isAsked state) || isKind 9 && not (sameState state LineWaiting))
       -- kinds 5, 6: invoke is not the outstanding number
-      ∷ row 9 (isReply && not (isOutstanding (recordFound t held) (e .invoke)))
+      ∷ row 9 (isReplyKind && not (isOutstanding (recordFound t held) (e .invoke)))
       -- kind 10: that timer is not running
       ∷ row 10 (isKind 10 && not (runs (timerSet (sideFound held) state) (e .timer)))
       ∷ []

@@ -25,14 +25,14 @@ use Rattle.events.specs.declared.turn.Stage.{Stage}
 use Rattle.events.specs.declared.turn.Stage.the-variants.{Waits, AskedHere, AskedFrom, Taken}
 use Rattle.events.specs.declared.turn.Outcome.{Outcome}
 use Rattle.events.specs.declared.turn.Outcome.the-variants.{Refused, Freed, Becomes}
-use Rattle.events.specs.Message.{messageConnection, messageInvoke, sent}
+use Rattle.events.specs.Message.{sent}
 use Rattle.events.specs.Turn.{stageBy, stageOf, greeting, up, turnOn}
 use Rattle.events.proofs.Refusals.{Tells, nothing, parker, picker}
 use Rattle.events.proofs.Outcomes.{GoesOn, asked-here, asked-from, handed-over, turned-down, Ends, freed, cut-off, freed-and-told, cut-off-and-told, Does, does}
 use Rattle.room.specs.Room.{Bare}
 
 -- connection and invoke are never both set in one message
-never-both : (m : Message) → (messageConnection m ≡ noConnection) ⊎ (messageInvoke m ≡ noInvoke)
+never-both : (m : Message) → (sent m .connection ≡ noConnection) ⊎ (sent m .invoke ≡ noInvoke)
 never-both NoMessage = inl refl
 never-both ParkResult = inl refl
 never-both ParkError = inl refl
@@ -58,7 +58,7 @@ module _ (P : ℕ → Type 0) (at-0 : P 0) where
   abbrev Sends : Message → Type 0
   Sends m = Within P (sent m)
 
-  sends : (m : Message) → P (messageConnection m .0) → messageInvoke m .0 ≤ 65535 → Sends m
+  sends : (m : Message) → P (sent m .connection .0) → sent m .invoke .0 ≤ 65535 → Sends m
   sends m c n = record { connection = c; invoke = n; one-unset = never-both m }
 
   pub nothing-sent : Sends NoMessage

@@ -12,7 +12,7 @@ use Rattle.events.specs.declared.Event.{Event}
 use Rattle.events.specs.declared.Answer.{Answer}
 use Rattle.events.specs.declared.message.Sent.{Sent}
 use Rattle.step.specs.Step.{stepOf}
-use Rattle.step.specs.Edges.{callOf}
+use Rattle.step.specs.Edges.{callNo}
 use Rattle.step.specs.Promises.{Full}
 use Rattle.lines.specs.EventLine.{eventOf}
 use Rattle.lines.specs.AnswerLine.{answerLine, answerRoom}
@@ -75,11 +75,11 @@ lengthsFrom t (e ∷ es) = length (answerLine (stepOf t e .answer)) ∷ lengthsF
 -- it is asked for again, and T3 runs out: message 7, and message 6 with that connection second.
 abbrev pub longestRun : List Event
 longestRun =
-    eventOf 1 (callOf 1) 17 0 0 0 0
-    ∷ eventOf 4 (callOf 1) 0 0 65535 0 0
-    ∷ eventOf 6 (callOf 1) 0 0 0 1 0
-    ∷ eventOf 4 (callOf 1) 0 0 65535 0 0
-    ∷ eventOf 10 (callOf 1) 0 0 0 0 3
+    eventOf 1 (callNo 1) 17 0 0 0 0
+    ∷ eventOf 4 (callNo 1) 0 0 65535 0 0
+    ∷ eventOf 6 (callNo 1) 0 0 0 1 0
+    ∷ eventOf 4 (callNo 1) 0 0 65535 0 0
+    ∷ eventOf 10 (callNo 1) 0 0 0 0 3
     ∷ []
 
 -- `longest-given`: from the empty table. The program `longest` runs the same events.

@@ -38,9 +38,9 @@ use Rattle.events.specs.declared.sought.Sought.the-variants.{Held, Never}
 use Rattle.events.specs.Sought.{isTimer}
 use Rattle.step.specs.Aim.{chosen, aimNamed, aimNew, aimFor, aim}
 use Rattle.events.specs.Act.{stayCall}
-use Rattle.step.specs.Step.{settled, stepOf}
+use Rattle.step.specs.Step.{stepOf}
 use Rattle.step.specs.Promises.{namesCall, AtOnePlace}
-use Rattle.step.proofs.Stepped.{Reached, Stepped, kept, begun, ended, went-on}
+use Rattle.step.proofs.Stepped.{Reached, Stepped, kept, begun, ended, went-on, settled}
 use Rattle.table.proofs.Sides.{place-index, place-side}
 use Rattle.stays.specs.ParkTable.{byAnswer}
 use Rattle.stays.proofs.Turned.{Acts, Proposes, Turned, opened, closed, carried}

@@ -3,11 +3,11 @@ use mathlib.Core.Path.{_≡_, refl, sym, ap, ap₂, subst, _∙_}
 use mathlib.Core.Bool.{Bool, true, false, cond, not, _&&_, true≢false}
 use mathlib.Core.List.{List}
 use mathlib.Core.Logic.{_⊎_, inl, inr, ⊎-elim}
-use Prim.Native.Nat.{ℕ, _+_, _<_, _≤_, _%_}
+use Prim.Native.Nat.{ℕ, _<_, _≤_, _%_}
 use native.Mathlib.Omega.{arith}
-use lib.Dec.{eqb, ltb}
+use lib.Dec.{eqb}
 use lib.ListN.{length}
-use borrow.Author.Tests.{lt-ltb, le-ltb}
+use borrow.Author.Tests.{ne-eqb}
 use Rattle.laws.proofs.Bools.{never, not-both}
 use Rattle.table.specs.declared.State.the-variants.{Free, RemoteRequested}
 use Rattle.table.specs.declared.Side.{Side}
@@ -16,7 +16,7 @@ use Rattle.table.specs.declared.Record.{Record}
 use Rattle.table.specs.declared.Table.{Table}
 use Rattle.table.specs.declared.Found.{Found}
 use Rattle.table.specs.declared.Found.the-variants.{At, Nothing}
-use Rattle.table.specs.Places.{stateNumber, isFree, sideAt, placeAt, noInvoke, freeRecord, recordAt, rankAt, positionCount, placeCount}
+use Rattle.table.specs.Places.{isFree, sideAt, placeAt, noInvoke, freeRecord, recordAt, rankAt, positionCount, placeCount}
 use Rattle.table.specs.Search.{holds, findCall}
 use Rattle.table.specs.Sound.{isSound, fitsSide, Sound}
 use Rattle.table.proofs.Calls.{holds-same, holds-occupied, occupied-holds}
@@ -50,13 +50,14 @@ use Rattle.step.specs.Aim.{aim, aimAt, aimNamed, aimFor}
 use Rattle.events.specs.Act.{stayCall}
 use Rattle.events.proofs.Released.{error-in-release}
 use Rattle.events.proofs.Refusals.{refused-not-0}
-use Rattle.step.specs.Step.{refusedBy, done, settled, carriedOut, stepOf}
+use Rattle.step.specs.Step.{refusedBy, carriedOut, stepOf}
 use Rattle.step.specs.Promises.{Full, IsAccepted, KeepsSound, RefusalKeeps, Move, starts, rankOf, AtOnePlace, AcceptedAtOnePlace, one-if, T3RunsThrough, namesCall, byName, MatchedByCall, NotHeldIs5, StartAnswersItsCall, onlyNamed, IgnoresOtherFields, ReleaseFrees, RemoteResultHolds}
 use Rattle.table.proofs.Sides.{same-index}
+use Rattle.events.proofs.RuleLaws.{by-kind}
 use Rattle.step.proofs.Aims.{aim-on, aim-lost}
 use Rattle.step.proofs.Turns.{stage-fits, waiting-offered, stage-occupied, stage-connection, move-end, move-on, left-held, result-in-4}
 use Rattle.step.proofs.Timers.{t3-started}
-use Rattle.step.proofs.Stepped.{Reached, Stepped, kept, begun, ended, went-on, refused-stays, stepped}
+use Rattle.step.proofs.Stepped.{Reached, Stepped, kept, begun, ended, went-on, refused-stays, stepped, done, settled}
 
 -- kind 1 is the only one that parks
 abbrev parks : Rule → Bool
@@ -66,18 +67,10 @@ parks (On s) = false
 parks Unknown = false
 
 parks-kind : (kind : ℕ) → parks (ruleOf kind) ≡ eqb kind 1
-parks-kind kind =
-    first (eqb kind 1) _
-    (other (eqb kind 2) _ _ refl (other (eqb kind 3) _ _ refl (other (eqb kind 4) _ _ refl (other (eqb kind 5) _ _ refl
-    (other (eqb kind 6) _ _ refl (other (eqb kind 7) _ _ refl (other (eqb kind 8) _ _ refl (other (eqb kind 9) _ _ refl (other (eqb kind 10) _ _ refl refl)))))))))
-  where
-    other : (b : Bool) (x y : Rule) → parks x ≡ false → parks y ≡ false → parks (cond b x y) ≡ false
-    other true x y p q = p
-    other false x y p q = q
-
-    first : (b : Bool) (rest : Rule) → parks rest ≡ false → parks (cond b (Start Position) rest) ≡ b
-    first true rest p = refl
-    first false rest p = p
+parks-kind =
+    by-kind (λ kind k. parks k ≡ eqb kind 1) refl refl
+    (λ kind s h. sym (ne-eqb kind 1 (λ e. absurd (omega (arith, e)))))
+    (λ kind one two. sym (ne-eqb kind 1 one))
 
 module _ (t : Table) (all : Full t) (e : Event) where
   abbrev size : length (t .places) ≡ placeCount

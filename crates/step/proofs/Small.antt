@@ -21,15 +21,15 @@ use Rattle.events.specs.declared.message.ErrorValue.the-variants.{Undefined, Ca
 use Rattle.events.specs.declared.turn.Stage.the-variants.{Waits}
 use Rattle.events.specs.Rule.{ruleOf}
 use Rattle.events.specs.Turn.{heldRecord, greeting}
-use Rattle.events.specs.Message.{messageNumber, messageError, sent}
+use Rattle.events.specs.Message.{sent}
 use Rattle.events.specs.Refusal.{refusalNumber, refusalMessage}
 use Rattle.events.specs.Answers.{saying}
 use Rattle.events.proofs.Refusals.{numbered}
-use Rattle.step.specs.Step.{done, stepOf}
+use Rattle.step.specs.Step.{stepOf}
 use Rattle.step.specs.Promises.{SmallSent, Small, AnswersSmall}
-use Rattle.step.proofs.Stepped.{Stepped, kept, begun, ended, went-on, stepped}
+use Rattle.step.proofs.Stepped.{Stepped, kept, begun, ended, went-on, stepped, done}
 
-message-below : (m : Message) → messageNumber m ≤ 7
+message-below : (m : Message) → sent m .message ≤ 7
 message-below NoMessage = lit≤ tt
 message-below ParkResult = lit≤ tt
 message-below ParkError = lit≤ tt
@@ -39,7 +39,7 @@ message-below (PickResult c) = lit≤ tt
 message-below (PickError c x) = lit≤ tt
 message-below ReleaseComplete = lit≤ tt
 
-error-below : (m : Message) → messageError m ≤ 2
+error-below : (m : Message) → sent m .error ≤ 2
 error-below NoMessage = lit≤ tt
 error-below ParkResult = lit≤ tt
 error-below ParkError = lit≤ tt

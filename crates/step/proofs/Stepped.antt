@@ -8,6 +8,7 @@ use native.Mathlib.Omega.{arith}
 use lib.ListN.{length}
 use Rattle.table.specs.declared.Invoke.{Invoke}
 use Rattle.table.specs.declared.Side.{Side}
+use Rattle.table.specs.declared.Record.{Record}
 use Rattle.table.specs.declared.Table.{Table}
 use Rattle.table.specs.Places.{isFree, sideAt, noInvoke, freeRecord, recordAt, placeCount}
 use Rattle.table.specs.Sound.{isSound}
@@ -28,12 +29,21 @@ use Rattle.step.specs.declared.aim.Aim.{Aim}
 use Rattle.step.specs.declared.aim.Aim.the-variants.{To, Nowhere}
 use Rattle.events.specs.Rule.{ruleOf}
 use Rattle.events.specs.Answers.{declined}
+use Rattle.events.specs.Act.{changed, left}
 use Rattle.events.specs.Taken.{outcomeNumber}
 use Rattle.events.specs.Turn.{heldRecord, greeting, turnOn}
 use Rattle.table.proofs.Keep.{put-same}
 use Rattle.step.specs.Aim.{aim}
-use Rattle.step.specs.Step.{refusedBy, done, settled, carriedOut, stepOf}
+use Rattle.step.specs.Step.{refusedBy, placed, carriedOut, stepOf}
 use Rattle.step.proofs.Aims.{Room, aim-new, aim-on}
+
+-- a new record at an index, with its call's answer
+abbrev pub done : Table → ℕ → Record → List ℕ → Message → Message → Step
+done t i new call first second = placed t i (changed i (recordAt t i) new call first second)
+
+-- an outcome at an index
+abbrev pub settled : Table → Event → ℕ → List ℕ → Outcome → Step
+settled t e i call u = placed t i (left e i (recordAt t i) call u)
 
 -- a signal on a held call: the event's rule, the place, and that it is occupied
 pub record Reached (t : Table) (e : Event) (s : Signal) (i : ℕ) : Type 0 where

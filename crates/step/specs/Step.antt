@@ -1,8 +1,6 @@
 -- THE MACHINE: one event at a table, its answer and the table after it (document 01, "Events" and "Refusal numbers"; document 02).
 use mathlib.Core.Bool.{cond}
-use mathlib.Core.List.{List}
 use Prim.Native.Nat.{ℕ}
-use Rattle.table.specs.declared.Record.{Record}
 use Rattle.table.specs.declared.Table.{Table}
 use Rattle.table.specs.Places.{recordAt}
 use Rattle.table.specs.Ranks.{put}
@@ -10,13 +8,11 @@ use Rattle.table.specs.Sound.{isSound}
 use Rattle.events.specs.declared.Event.{Event}
 use Rattle.events.specs.declared.Acted.{Acted}
 use Rattle.events.specs.declared.rule.Rule.{Rule}
-use Rattle.events.specs.declared.message.Message.{Message}
 use Rattle.events.specs.declared.refusal.Refusal.{Refusal}
 use Rattle.events.specs.declared.refusal.Refusal.the-variants.{TableUnsound}
-use Rattle.events.specs.declared.turn.Outcome.{Outcome}
 use Rattle.events.specs.Rule.{ruleOf}
 use Rattle.events.specs.Answers.{declined}
-use Rattle.events.specs.Act.{changed, left, actedBy}
+use Rattle.events.specs.Act.{actedBy}
 use Rattle.step.specs.declared.Step.{Step}
 use Rattle.step.specs.declared.aim.Aim.{Aim}
 use Rattle.step.specs.declared.aim.Aim.the-variants.{To, Nowhere}
@@ -29,13 +25,6 @@ refusedBy t e w = record { table = t; answer = declined e w }
 -- what an event leaves at its place, in the table; the ranks follow from it
 abbrev pub placed : Table → ℕ → Acted → Step
 placed t i a = record { table = put t i (a .after); answer = a .answer }
-
--- a new record at an index, with its call's answer
-abbrev pub done : Table → ℕ → Record → List ℕ → Message → Message → Step
-done t i new call first second = placed t i (changed i (recordAt t i) new call first second)
-
-abbrev pub settled : Table → Event → ℕ → List ℕ → Outcome → Step
-settled t e i call u = placed t i (left e i (recordAt t i) call u)
 
 -- the event at the place that it is for, or its refusal where there is none
 abbrev pub carriedOut : Rule → Table → Event → Aim → Step

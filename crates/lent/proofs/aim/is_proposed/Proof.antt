@@ -5,8 +5,8 @@ use native.Mathlib.Omega.{arith}
 use Rattle.table.specs.Places.{isFree, isOf, sideOf}
 use Rattle.table.proofs.Sides.{less-one, number-of-side}
 use borrow.Author.Needs.{needs}
-use Rattle.lent.proofs.is_proposed.Statement.{statement}
-use Rattle.lent.proofs.is_proposed.Tie as tie
+use Rattle.lent.proofs.aim.is_proposed.Statement.{statement}
+use Rattle.lent.proofs.aim.is_proposed.Tie as tie
 
 side-requires : tie.Need-side-requires
 side-requires c κs = search needs

@@ -4,8 +4,8 @@ use Rattle.laws.proofs.Bools.{and-left}
 use Rattle.table.specs.Places.{isOf, sideOf}
 use Rattle.table.proofs.Sides.{less-one, number-of-side}
 use borrow.Author.Needs.{needs}
-use Rattle.lent.proofs.choose.Statement.{statement}
-use Rattle.lent.proofs.choose.Tie as tie
+use Rattle.lent.proofs.aim.choose.Statement.{statement}
+use Rattle.lent.proofs.aim.choose.Tie as tie
 
 is-proposed-requires : tie.Need-is-proposed-requires
 is-proposed-requires c κs = search needs
