@@ -2,14 +2,14 @@
 -- endpoint shall stop timer T4 and shall return to GP-Idle state.", and the same of Off and T5; "Expiry .. shall be treated the same as if a Reject
 -- APDU had been received."
 use mathlib.Core.Bool.{Bool, false, cond, _&&_}
-use mathlib.Core.List.{List, [], _∷_}
-use Prim.Native.Nat.{ℕ, _+_, _-_}
+use mathlib.Core.List.{List}
+use Prim.Native.Nat.{ℕ, _-_}
 use lib.Dec.{eqb}
 use lib.ListN.{getD, set}
 use Rattle.table.specs.declared.Found.{Found}
 use Rattle.table.specs.declared.Found.the-variants.{At, Nothing}
 use Rattle.table.specs.Places.{noPlace, placeAt}
-use Rattle.table.specs.Search.{sameCall}
+use Rattle.table.specs.Search.{sameCall, lowest}
 use Rattle.lamps.specs.declared.members.Lamp.{Lamp}
 use Rattle.lamps.specs.declared.members.Lamps.{Lamps}
 use Rattle.lamps.specs.declared.reply.Reply.{Reply}
@@ -26,8 +26,7 @@ isPending r x = getD (x .pending) (r .member - 1) false && sameRequest r x
 
 -- ".. at the lowest place if two match": the index, counted from i
 abbrev pub findPending : Reply → ℕ → List Lamp → Found
-findPending r i [] = Nothing
-findPending r i (x ∷ xs) = cond (isPending r x) (At i) (findPending r (i + 1) xs)
+findPending r = lowest (λ i. isPending r)
 
 -- the member is back in GP-Idle
 abbrev pub replied : Lamp → ℕ → Lamp

@@ -7,9 +7,9 @@ use lib.ListN.{length, drop, getD}
 use Rattle.laws.proofs.Runs.{length-mapped}
 use borrow.Author.Needs.{needs}
 use Rattle.table.specs.Places.{placeCount}
+use Rattle.table.proofs.Searches.{lowest-at, lowest-end}
 use Rattle.lamps.specs.Members.{blankLamp}
 use Rattle.lamps.specs.Reply.{isPending, findPending}
-use Rattle.lamps.proofs.Pending.{pending-at, pending-end}
 use Rattle.lamps.proofs.reply.find_pending.Statement.{statement}
 use Rattle.lamps.proofs.reply.find_pending.Tie as tie
 
@@ -37,7 +37,7 @@ is-pending-requires c κs = search needs
 returns : tie.Need-returns Inv-loop μ-loop
 returns c =
     let k = c .before .before .before .before in
-    let step = pending-at (k .before .args .r) (k .before .args .t1 .places) (k .loop .i) (omega (arith, size k)) in
+    let step = lowest-at (λ i. isPending (k .before .args .r)) blankLamp (k .before .args .t1 .places) (k .loop .i) (omega (arith, size k)) in
     let hit : isPending (k .before .args .r) (getD (k .before .args .t1 .places) (k .loop .i) blankLamp) ≡ true = sym (c .before .is-pending .ensures) ∙ c .if1 .taken in
     sym (k .loop .inv .1 ∙ step ∙ rw hit)
 
@@ -50,14 +50,14 @@ loop-less c = omega arith
 loop-again : tie.Need-loop-again Inv-loop μ-loop
 loop-again c =
     let k = c .before .before .before .before in
-    let step = pending-at (k .before .args .r) (k .before .args .t1 .places) (k .loop .i) (omega (arith, size k)) in
+    let step = lowest-at (λ i. isPending (k .before .args .r)) blankLamp (k .before .args .t1 .places) (k .loop .i) (omega (arith, size k)) in
     let miss : isPending (k .before .args .r) (getD (k .before .args .t1 .places) (k .loop .i) blankLamp) ≡ false = sym (c .before .is-pending .ensures) ∙ c .if1 .left in
     (omega arith, k .loop .inv .1 ∙ step ∙ rw miss)
 
 returns-2 : tie.Need-returns-2 Inv-loop μ-loop
 returns-2 c =
     let k = c .before in
-    sym (k .loop .inv .1 ∙ pending-end (k .before .args .r) (k .before .args .t1 .places) (k .loop .i) (omega (arith, size k)))
+    sym (k .loop .inv .1 ∙ lowest-end (λ i. isPending (k .before .args .r)) blankLamp (k .before .args .t1 .places) (k .loop .i) (omega (arith, size k)))
 
 pub find-pending-spec : {M : Type 1} → statement M
 find-pending-spec =
