@@ -9,9 +9,8 @@ use native.Mathlib.Nat.{zero-add}
 use native.Mathlib.Omega.{arith}
 use lib.Dec.{eqb}
 use lib.ListN.{length, getD, length-set, length-replicate}
-use Rattle.laws.proofs.Bools.{never}
 use Rattle.table.specs.declared.State.{State}
-use Rattle.table.specs.declared.State.the-variants.{Free, ParkWaiting, LineWaiting, Requested, RemoteRequested, HandedOver}
+use Rattle.table.specs.declared.State.the-variants.{HandedOver}
 use Rattle.table.specs.declared.Record.{Record}
 use Rattle.table.specs.declared.Table.{Table}
 use Rattle.table.specs.declared.Found.{Found}
@@ -19,6 +18,8 @@ use Rattle.table.specs.declared.Found.the-variants.{At, Nothing}
 use Rattle.table.specs.Places.{stateNumber, isFree, freeRecord, recordAt, placeCount, indexOf}
 use Rattle.table.specs.Search.{holds}
 use Rattle.table.proofs.Calls.{holds-same, holds-occupied}
+use Rattle.table.proofs.Sides.{place-index}
+use Rattle.table.proofs.States.{same-state}
 use Rattle.events.specs.declared.Event.{Event}
 use Rattle.events.specs.declared.Answer.{Answer}
 use Rattle.step.specs.Step.{stepOf}
@@ -34,7 +35,6 @@ use Rattle.stays.proofs.Turned.{Turned, at-start, at-going, at-end, stays-spent
 use Rattle.stays.proofs.TableLaws.{laws, read}
 use Rattle.stays.proofs.EachStay.{answer-of}
 use Rattle.stays.proofs.Requester.{part-agrees}
-use Rattle.table.proofs.Sides.{place-index}
 use Rattle.stays.proofs.Weights.{weight, ended-weight, weight-starts, weight-goes-on, weight-ends, ended-snoc}
 use Rattle.lamps.specs.declared.Endpoint.{Endpoint}
 use Rattle.lamps.specs.declared.members.Lamps.{Lamps}
@@ -148,14 +148,6 @@ handed-snoc (y ∷ old) x = by (eqb (y .answer .state) 5) (handed-snoc old x)
     by true rec = refl
     by false rec = rec
 
-state-5 : (s : State) → eqb (stateNumber s) 5 ≡ true → s ≡ HandedOver
-state-5 Free h = never h
-state-5 ParkWaiting h = never h
-state-5 LineWaiting h = never h
-state-5 Requested h = never h
-state-5 RemoteRequested h = never h
-state-5 HandedOver h = refl
-
 -- .. and it was handed over where that record is in state 5, from which nothing goes on
 part-handed : {p : ℕ} {c : List ℕ} {xs : List Act} {r : Record} → Part machine laws p c xs r → wasHandedOver xs ≡ eqb (stateNumber (r .state)) 5
 part-handed (begun {x} turn k q) = handed-snoc [] x ∙ ap (λ (n : ℕ). eqb n 5) (answer-of turn .2)
@@ -164,7 +156,7 @@ part-handed {p} {c} (onward {xs} {x} {r} {s} h turn k q) =
   where
     by : (b : Bool) → b ≡ eqb (stateNumber (r .state)) 5 → b || eqb (stateNumber (s .state)) 5 ≡ eqb (stateNumber (s .state)) 5
     by false e = refl
-    by true e = let still : s .state ≡ HandedOver = stays-spent turn k (state-5 (r .state) (sym e)) .1 in rw still
+    by true e = let still : s .state ≡ HandedOver = stays-spent turn k (same-state (r .state) HandedOver (sym e)) .1 in rw still
 
 module _ {s : Endpoint} {st : Stays Act} (g : Good s st) (e : Event) (k : eqb (stepOf (s .table) e .answer .number) 0 ≡ true) where
   abbrev act : Act
