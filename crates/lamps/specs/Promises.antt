@@ -69,12 +69,9 @@ EachOff = (f : List ℕ → Bool) (m : ℕ) → isMember m ≡ true → (xs : Li
 
 -- ---- begun, ended and handed over, counted from the answers
 
-abbrev pub isDone : Answer → Bool
-isDone a = eqb (a .number) 0
-
--- an event that is done, and of which this holds, for a call that passes the test
+-- an event that is accepted, and of which this holds, for a call that passes the test
 abbrev pub counted : (Event → Answer → Bool) → (List ℕ → Bool) → Endpoint → Input → ℕ
-counted p f s (event e) = one-if (isDone (toldOf s e .answer) && (p e (toldOf s e .answer) && f (toldOf s e .answer .call)))
+counted p f s (event e) = one-if (machine .accepted (toldOf s e .answer) && (p e (toldOf s e .answer) && f (toldOf s e .answer .call)))
 counted p f s (reply r) = 0
 
 -- was the call of the stay handed over, whether the stay has ended since or not?
