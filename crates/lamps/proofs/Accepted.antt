@@ -23,7 +23,7 @@ use Rattle.events.proofs.Refusals.{refused-not-0}
 use Rattle.step.specs.declared.Step.{Step}
 use Rattle.step.specs.Step.{stepOf}
 use Rattle.step.specs.Promises.{Full, offered, Move, starts, goes-on, hands-over, ends, is-left, AtOnePlace}
-use Rattle.table.proofs.Sides.{less-one, same-index, place-index}
+use Rattle.table.proofs.Sides.{place-number, place-index, same-index, less-one}
 use Rattle.step.proofs.Stepped.{Stepped, kept, begun, ended, went-on, stepped}
 use Rattle.step.proofs.Promises.{refusal-keeps, accepted-at-one-place}
 use Rattle.lamps.specs.declared.members.Indication.the-variants.{On, Off}
@@ -40,10 +40,6 @@ pub record Inside (p : Place) : Type 0 where
   pub from-1 : 1 ≤ p .0
   pub to-placeCount : p .0 - 1 < placeCount
   pub index : p .0 - 1 ≡ indexOf (p .0)
-
--- the number of the place at an index is one above it
-pub place-number : (i : ℕ) → i < placeCount → placeAt i .0 ≡ i + 1
-place-number i h = let in-table : ltb i placeCount ≡ true = lt-ltb i placeCount h in rw in-table
 
 pub accepted-inside : (t : Table) (e : Event) (s : Step) → Full t → s ≡ stepOf t e → s .answer .number ≡ 0 → Inside (s .answer .place)
 accepted-inside t e s full q h =
@@ -93,14 +89,13 @@ pub record OnOffer (s : State) : Type 0 where
   pub held : isFree s ≡ false
   pub due : hadOff s ≡ false
   pub going : isOver (stateNumber s) ≡ false
-  pub not-5 : eqb (stateNumber s) 5 ≡ false
 
 pub on-offer : (s : State) → offered s ≡ true → OnOffer s
 on-offer Free h = never h
-on-offer ParkWaiting h = record { held = refl; due = refl; going = refl; not-5 = refl }
-on-offer LineWaiting h = record { held = refl; due = refl; going = refl; not-5 = refl }
-on-offer Requested h = record { held = refl; due = refl; going = refl; not-5 = refl }
-on-offer RemoteRequested h = record { held = refl; due = refl; going = refl; not-5 = refl }
+on-offer ParkWaiting h = record { held = refl; due = refl; going = refl }
+on-offer LineWaiting h = record { held = refl; due = refl; going = refl }
+on-offer Requested h = record { held = refl; due = refl; going = refl }
+on-offer RemoteRequested h = record { held = refl; due = refl; going = refl }
 on-offer HandedOver h = never h
 
 abbrev pub sends : {before after : State} → Move before after → Asks

@@ -12,6 +12,7 @@ use borrow.Author.Tests.{eq-eqb, ne-eqb}
 use Rattle.table.specs.declared.Found.{Found}
 use Rattle.table.specs.declared.Found.the-variants.{At, Nothing}
 use Rattle.table.specs.Places.{placeAt, placeCount}
+use Rattle.table.proofs.Sides.{place-number}
 use Rattle.events.specs.declared.Answer.{Answer}
 use Rattle.events.specs.Turn.{up}
 use Rattle.step.specs.Step.{stepOf}
@@ -32,7 +33,7 @@ use Rattle.lamps.specs.Served.{litOf}
 use Rattle.lamps.specs.Runs.{event, reply}
 use Rattle.lamps.specs.Clause.{replies, nothing, next, startedBy, stoppedBy, memberIn, memberAt, asksAt, settlesAt, FollowsClause}
 use Rattle.lamps.proofs.Numbers.{one-to}
-use Rattle.lamps.proofs.Accepted.{place-number, Came, refused, done, came, sends}
+use Rattle.lamps.proofs.Accepted.{Came, refused, done, came, sends}
 use Rattle.lamps.proofs.Pending.{pending-hit}
 
 -- of the timers at a place, that of a member

@@ -61,7 +61,7 @@ over-snoc old x = ap isOver (state-snoc 0 old x)
 -- ---- by the moves
 
 handed-anew : {before after : State} (m : Move before after) → isFree before ≡ true → eqb (stateNumber after) 5 ≡ false
-handed-anew (starts {after} o) h = on-offer after o .not-5
+handed-anew (starts {after} o) h = on-offer after o .due
 handed-anew (goes-on {before} o p) h = absurd (not-both h (on-offer before o .held))
 handed-anew (hands-over {before} o) h = absurd (not-both h (on-offer before o .held))
 handed-anew (ends {before} o) h = refl
@@ -101,9 +101,9 @@ module _ (v : Bool) where
   handed-longer : {before after : State} (m : Move before after) → isFree before ≡ false
       → one-if (eqb (stateNumber after) 5 && v) + one-if (eqb (stateNumber before) 5 && v) ≡ one-if ((eqb (stateNumber before) 5 || eqb (stateNumber after) 5) && v)
   handed-longer (starts o) h = never (sym h)
-  handed-longer (goes-on {before} {after} o p) h = rw (on-offer before o .not-5, on-offer after p .not-5)
-  handed-longer (hands-over {before} o) h = rw (on-offer before o .not-5) (omega arith)
-  handed-longer (ends {before} o) h = rw (on-offer before o .not-5)
+  handed-longer (goes-on {before} {after} o p) h = rw (on-offer before o .due, on-offer after p .due)
+  handed-longer (hands-over {before} o) h = rw (on-offer before o .due) (omega arith)
+  handed-longer (ends {before} o) h = rw (on-offer before o .due)
   handed-longer is-left h = omega arith
 
 -- ---- one event

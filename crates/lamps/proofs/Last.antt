@@ -23,7 +23,7 @@ use Rattle.events.specs.declared.Answer.{Answer}
 use Rattle.events.specs.Turn.{up}
 use Rattle.step.specs.Step.{stepOf}
 use Rattle.step.specs.Promises.{offered, Move, starts, goes-on, hands-over, ends, is-left}
-use Rattle.table.proofs.Sides.{same-index}
+use Rattle.table.proofs.Sides.{place-number, same-index}
 use Rattle.stays.specs.Stays.{Stays, none, keep, run}
 use Rattle.stays.specs.ParkTable.{machine}
 use Rattle.stays.specs.Demand.{Act}
@@ -43,7 +43,7 @@ use Rattle.lamps.specs.Reply.{findPending, replied, settledBy, refusedRe
 use Rattle.lamps.specs.Served.{start}
 use Rattle.lamps.specs.Runs.{Input, event, reply, after, final, eventsIn}
 use Rattle.lamps.specs.Promises.{LastStay, noStay, lastStay, isOff, IsOfLastStay, PendingOff, LampsAgree, Replaces}
-use Rattle.lamps.proofs.Accepted.{place-number, on-offer, sends, Came, refused, done, came}
+use Rattle.lamps.proofs.Accepted.{on-offer, sends, Came, refused, done, came}
 use Rattle.lamps.proofs.Along.{actOf, Good, full, good-after, good-final, good-start}
 
 -- ---- the lamp of a place
