@@ -1,6 +1,6 @@
--- Along a run: the stays of demand 3 are built beside it (`staysBy`), the table keeps the invariant of that crate and the lamps their length (`Good`).
--- An accepted event makes a stay anew or makes one longer (`Grown`), and so a number of each input that is the growth of a number of the stays adds
--- up to it (`adds-up`).
+-- Along a run: what is folded over the accepted events can be folded input by input (`fold-step`), and so are the stays of demand 3 (`staysBy`). The
+-- table keeps the invariant of that crate and the lamps their length (`Good`). An accepted event makes a stay anew or makes one longer (`Grown`), and so
+-- a number of each input that is the growth of a number of the stays adds up to it (`adds-up`).
 use mathlib.Core.Path.{_≡_, refl, sym, ap, _∙_, subst}
 use mathlib.Core.Bool.{Bool, true, false, cond, _||_}
 use mathlib.Core.List.{List, [], _∷_, _++_}
@@ -49,26 +49,33 @@ use Rattle.lamps.specs.Runs.{Input, event, reply, after, final, sum, eve
 use Rattle.lamps.specs.Promises.{callIn, wasHandedOver}
 use Rattle.lamps.proofs.Accepted.{Came, refused, done, came, sends}
 
--- ---- the stays, input by input
+-- ---- a fold over the accepted events, input by input
 
 abbrev pub actOf : Table → Event → Act
 actOf t e = Fold.done machine t e
 
-abbrev pub staysBy : Stays Act → Endpoint → Input → Stays Act
-staysBy st s (event e) =
-    cond (eqb (stepOf (s .table) e .answer .number) 0) (add (machine .mark (actOf (s .table) e)) (machine .place (actOf (s .table) e)) (actOf (s .table) e) st) st
-staysBy st s (reply r) = st
+-- an accepted event is folded in; a refused one and a reply are not
+abbrev pub foldBy : {A : Type 0} → (A → Act → A) → A → Endpoint → Input → A
+foldBy f a s (event e) = cond (machine .accepted (stepOf (s .table) e .answer)) (f a (actOf (s .table) e)) a
+foldBy f a s (reply r) = a
 
--- the rest of a run, with its first input taken
-stays-step : (st : Stays Act) (s : Endpoint) (x : Input) (xs : List Input)
-    → stays machine st (run machine (s .table) (eventsIn (x ∷ xs))) ≡ stays machine (staysBy st s x) (run machine (after s x .table) (eventsIn xs))
-stays-step st s (event e) xs = by (eqb (stepOf (s .table) e .answer .number) 0) (run machine (stepOf (s .table) e .table) (eventsIn xs))
+-- the fold over a run, with its first input taken
+pub fold-step : {A : Type 0} (f : A → Act → A) (fold : A → List Act → A) → ((a : A) (x : Act) (xs : List Act) → fold a (x ∷ xs) ≡ fold (f a x) xs)
+    → (a : A) (s : Endpoint) (x : Input) (xs : List Input)
+    → fold a (run machine (s .table) (eventsIn (x ∷ xs))) ≡ fold (foldBy f a s x) (run machine (after s x .table) (eventsIn xs))
+fold-step f fold go a s (event e) xs = by (machine .accepted (stepOf (s .table) e .answer)) (run machine (stepOf (s .table) e .table) (eventsIn xs))
   where
-    by : (b : Bool) (ys : List Act) → stays machine st (keep b (actOf (s .table) e) ys)
-        ≡ stays machine (cond b (add (machine .mark (actOf (s .table) e)) (machine .place (actOf (s .table) e)) (actOf (s .table) e) st) st) ys
-    by true ys = refl
+    by : (b : Bool) (ys : List Act) → fold a (keep b (actOf (s .table) e) ys) ≡ fold (cond b (f a (actOf (s .table) e)) a) ys
+    by true ys = go a (actOf (s .table) e) ys
     by false ys = refl
-stays-step st s (reply r) xs = refl
+fold-step f fold go a s (reply r) xs = refl
+
+-- the stays
+abbrev added : Stays Act → Act → Stays Act
+added st x = add (machine .mark x) (machine .place x) x st
+
+abbrev pub staysBy : Stays Act → Endpoint → Input → Stays Act
+staysBy = foldBy added
 
 -- ---- what holds along a run
 
@@ -95,7 +102,7 @@ pub good-after : {s : Endpoint} {st : Stays Act} → Good s st → (x : Input) �
 good-after {s} {st} g (event e) = record { inv = inv (eqb (stepOf (s .table) e .answer .number) 0) refl; wide = wide (came (s .lamps) (s .table) e (full g)) ∙ g .wide }
   where
     inv : (b : Bool) → eqb (stepOf (s .table) e .answer .number) 0 ≡ b
-        → Inv machine laws (stepOf (s .table) e .table) (cond b (add (machine .mark (actOf (s .table) e)) (machine .place (actOf (s .table) e)) (actOf (s .table) e) st) st)
+        → Inv machine laws (stepOf (s .table) e .table) (cond b (added st (actOf (s .table) e)) st)
     inv true q = inv-taken machine laws (g .inv) e q
     inv false q = rw (laws .refused (g .inv .shows) e q) (g .inv)
 
@@ -106,7 +113,7 @@ good-after {s} g (reply r) = record { inv = g .inv; wide = settled-wide (s .lamp
 
 pub good-final : (s : Endpoint) (st : Stays Act) → Good s st → (xs : List Input) → Good (final s xs) (stays machine st (run machine (s .table) (eventsIn xs)))
 good-final s st g [] = g
-good-final s st g (x ∷ xs) = subst (Good (final s (x ∷ xs))) (sym (stays-step st s x xs)) (good-final (after s x) (staysBy st s x) (good-after g x) xs)
+good-final s st g (x ∷ xs) = subst (Good (final s (x ∷ xs))) (sym (fold-step added (stays machine) (λ st y ys. refl) st s x xs)) (good-final (after s x) (staysBy st s x) (good-after g x) xs)
 
 pub good-start : Good start none
 good-start = record { inv = inv-none machine laws; wide = length-replicate placeCount darkLamp }
@@ -230,4 +237,4 @@ adds-up w total once s st g (x ∷ xs) =
     let rest = adds-up w total once (after s x) (staysBy st s x) (good-after g x) xs in
     let now = once s st g x in
     let moved : sum w s (x ∷ xs) + total st ≡ sum w (after s x) xs + total (staysBy st s x) = omega (arith, now) in
-    moved ∙ rest ∙ ap total (sym (stays-step st s x xs))
+    moved ∙ rest ∙ ap total (sym (fold-step added (stays machine) (λ st y ys. refl) st s x xs))

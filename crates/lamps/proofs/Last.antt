@@ -24,7 +24,7 @@ use Rattle.events.specs.Turn.{up}
 use Rattle.step.specs.Step.{stepOf}
 use Rattle.step.specs.Promises.{offered, Move, starts, goes-on, hands-over, ends, is-left}
 use Rattle.table.proofs.Sides.{place-number, same-index}
-use Rattle.stays.specs.Stays.{Stays, none, keep, run}
+use Rattle.stays.specs.Stays.{Stays, none, run}
 use Rattle.stays.specs.ParkTable.{machine}
 use Rattle.stays.specs.Demand.{Act}
 use Rattle.lamps.specs.declared.Endpoint.{Endpoint}
@@ -44,7 +44,7 @@ use Rattle.lamps.specs.Served.{start}
 use Rattle.lamps.specs.Runs.{Input, event, reply, after, final, eventsIn}
 use Rattle.lamps.specs.Promises.{LastStay, noStay, lastStay, isOff, IsOfLastStay, PendingOff, LampsAgree, Replaces}
 use Rattle.lamps.proofs.Accepted.{on-offer, sends, Came, refused, done, came}
-use Rattle.lamps.proofs.Along.{actOf, Good, full, good-after, good-final, good-start}
+use Rattle.lamps.proofs.Along.{actOf, foldBy, fold-step, Good, full, good-after, good-final, good-start}
 
 -- ---- the lamp of a place
 
@@ -82,21 +82,11 @@ reply-shows l r j = by (isMember (r .member)) (findPending r 0 (l .places))
 
 -- ---- the stay that was last at a place, input by input
 
-abbrev nowAt : ℕ → Answer → LastStay → LastStay
-nowAt i a before = cond (eqb (a .place .0) (i + 1)) (record { call = a .call; over = isOver (a .state) }) before
+abbrev nowAt : ℕ → LastStay → Act → LastStay
+nowAt i before x = cond (eqb (x .answer .place .0) (i + 1)) (record { call = x .answer .call; over = isOver (x .answer .state) }) before
 
 abbrev lastBy : ℕ → LastStay → Endpoint → Input → LastStay
-lastBy i before s (event e) = cond (eqb (stepOf (s .table) e .answer .number) 0) (nowAt i (stepOf (s .table) e .answer) before) before
-lastBy i before s (reply r) = before
-
-last-step : (i : ℕ) (before : LastStay) (s : Endpoint) (x : Input) (xs : List Input)
-    → lastStay i before (run machine (s .table) (eventsIn (x ∷ xs))) ≡ lastStay i (lastBy i before s x) (run machine (after s x .table) (eventsIn xs))
-last-step i before s (event e) xs = by (eqb (stepOf (s .table) e .answer .number) 0) (run machine (stepOf (s .table) e .table) (eventsIn xs))
-  where
-    by : (b : Bool) (ys : List Act) → lastStay i before (keep b (actOf (s .table) e) ys) ≡ lastStay i (cond b (nowAt i (stepOf (s .table) e .answer) before) before) ys
-    by true ys = refl
-    by false ys = refl
-last-step i before s (reply r) xs = refl
+lastBy i = foldBy (nowAt i)
 
 -- ---- what a lamp shows, beside the record of its place and the last stay there
 
@@ -149,7 +139,7 @@ module _ (i : ℕ) (inside : i < placeCount) (last : LastStay) (s : Endpoint) (s
       lit-lamps : Lamps
       lit-lamps = litBy (s .lamps) (x .index) a (sends (x .move)) .lamps
 
-      by : Dec (i ≡ x .index) → Fits (lampAt lit-lamps i) (recordAt (stepOf (s .table) e .table) i) (nowAt i a last)
+      by : Dec (i ≡ x .index) → Fits (lampAt lit-lamps i) (recordAt (stepOf (s .table) e .table) i) (nowAt i last (actOf (s .table) e))
       by (no n) =
           let elsewhere : eqb (a .place .0) (i + 1) ≡ false = ne-eqb (a .place .0) (i + 1) (λ w. n (omega (arith, number))) in
           rw (elsewhere, lit-other (s .lamps) a (x .index) (sends (x .move)) i n, x .others i n) fits
@@ -172,7 +162,7 @@ run-fits : (i : ℕ) → i < placeCount → (s : Endpoint) (st : Stays Act) → 
     → FitsAt (final s xs) i (lastStay i last (run machine (s .table) (eventsIn xs)))
 run-fits i inside s st good last fits [] = fits
 run-fits i inside s st good last fits (x ∷ xs) =
-    subst (FitsAt (final s (x ∷ xs)) i) (sym (last-step i last s x xs))
+    subst (FitsAt (final s (x ∷ xs)) i) (sym (fold-step (nowAt i) (lastStay i) (λ before y ys. refl) last s x xs))
     (run-fits i inside (after s x) _ (good-after good x) (lastBy i last s x) (input-fits i inside last s st good fits x) xs)
 
 start-fits : (i : ℕ) → i < placeCount → FitsAt start i noStay
