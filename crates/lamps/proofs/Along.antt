@@ -13,8 +13,6 @@ use Rattle.table.specs.declared.State.{State}
 use Rattle.table.specs.declared.State.the-variants.{HandedOver}
 use Rattle.table.specs.declared.Record.{Record}
 use Rattle.table.specs.declared.Table.{Table}
-use Rattle.table.specs.declared.Found.{Found}
-use Rattle.table.specs.declared.Found.the-variants.{At, Nothing}
 use Rattle.table.specs.Places.{stateNumber, isFree, freeRecord, recordAt, placeCount, indexOf}
 use Rattle.table.specs.Search.{holds}
 use Rattle.table.proofs.Calls.{holds-same, holds-occupied}
@@ -41,13 +39,14 @@ use Rattle.lamps.specs.declared.members.Lamps.{Lamps}
 use Rattle.lamps.specs.declared.notice.Asks.{Asks}
 use Rattle.lamps.specs.declared.notice.Asks.the-variants.{NoOne, Each}
 use Rattle.lamps.specs.declared.reply.Reply.{Reply}
-use Rattle.lamps.specs.Members.{isMember, darkLamp}
+use Rattle.lamps.specs.declared.reply.Settled.{Settled}
+use Rattle.lamps.specs.Members.{darkLamp}
 use Rattle.lamps.specs.Notice.{litBy}
-use Rattle.lamps.specs.Reply.{findPending, settledBy, refusedReply, settledOf}
 use Rattle.lamps.specs.Served.{litOf, start}
 use Rattle.lamps.specs.Runs.{Input, event, reply, after, final, sum, eventsIn}
 use Rattle.lamps.specs.Promises.{callIn, wasHandedOver}
 use Rattle.lamps.proofs.Accepted.{Came, refused, done, came, sends}
+use Rattle.lamps.proofs.Settling.{Settling, refuses, settles, settling}
 
 -- ---- a fold over the accepted events, input by input
 
@@ -90,13 +89,9 @@ lit-wide : (l : Lamps) (i : ℕ) (a : Answer) (asks : Asks) → length (litBy l 
 lit-wide l i a NoOne = refl
 lit-wide l i a (Each n) = length-set (l .places) i _
 
-settled-wide : (l : Lamps) (r : Reply) → length (settledOf l r .lamps .places) ≡ length (l .places)
-settled-wide l r = by (isMember (r .member)) (findPending r 0 (l .places))
-  where
-    by : (b : Bool) (f : Found) → length (cond b (settledBy l r f) (refusedReply l 31) .lamps .places) ≡ length (l .places)
-    by true (At i) = length-set (l .places) i _
-    by true Nothing = refl
-    by false f = refl
+settled-wide : {l : Lamps} {r : Reply} {z : Settled} → Settling l r z → length (z .lamps .places) ≡ length (l .places)
+settled-wide (refuses w) = refl
+settled-wide {l} (settles {i} x) = length-set (l .places) i _
 
 pub good-after : {s : Endpoint} {st : Stays Act} → Good s st → (x : Input) → Good (after s x) (staysBy st s x)
 good-after {s} {st} g (event e) = record { inv = inv (eqb (stepOf (s .table) e .answer .number) 0) refl; wide = wide (came (s .lamps) (s .table) e (full g)) ∙ g .wide }
@@ -109,7 +104,7 @@ good-after {s} {st} g (event e) = record { inv = inv (eqb (stepOf (s .table) e .
     wide : Came (s .lamps) (s .table) e (stepOf (s .table) e) → length (litOf (s .lamps) (s .table) e (stepOf (s .table) e .answer) .lamps .places) ≡ length (s .lamps .places)
     wide (refused q same lit) = rw lit
     wide (done x q from lit) = rw lit (lit-wide (s .lamps) (x .index) (stepOf (s .table) e .answer) (sends (x .move)))
-good-after {s} g (reply r) = record { inv = g .inv; wide = settled-wide (s .lamps) r ∙ g .wide }
+good-after {s} g (reply r) = record { inv = g .inv; wide = settled-wide (settling (s .lamps) (g .wide) r) ∙ g .wide }
 
 pub good-final : (s : Endpoint) (st : Stays Act) → Good s st → (xs : List Input) → Good (final s xs) (stays machine st (run machine (s .table) (eventsIn xs)))
 good-final s st g [] = g

@@ -9,8 +9,6 @@ use lib.Dec.{eqb}
 use lib.ListN.{length, getD, set, replicate, getD-replicate, List·getD-map}
 use lib.Seq.{getD-set-same, getD-set-other}
 use borrow.Author.Tests.{eq-eqb, ne-eqb}
-use Rattle.table.specs.declared.Found.{Found}
-use Rattle.table.specs.declared.Found.the-variants.{At, Nothing}
 use Rattle.table.specs.Places.{placeAt, placeCount}
 use Rattle.table.proofs.Sides.{place-number}
 use Rattle.events.specs.declared.Answer.{Answer}
@@ -28,13 +26,13 @@ use Rattle.lamps.specs.declared.reply.Reply.{Reply}
 use Rattle.lamps.specs.declared.reply.Settled.{Settled}
 use Rattle.lamps.specs.Members.{awaits, timerIn, gpIn, gpOf, timersOf, isMember, blankLamp, lampAt}
 use Rattle.lamps.specs.Notice.{newLamp, unlit, asked, litBy}
-use Rattle.lamps.specs.Reply.{findPending, replied, settledAt, settledBy, refusedReply, settledOf}
+use Rattle.lamps.specs.Reply.{replied, settledAt, settledOf}
 use Rattle.lamps.specs.Served.{litOf}
 use Rattle.lamps.specs.Runs.{event, reply}
 use Rattle.lamps.specs.Clause.{replies, nothing, next, startedBy, stoppedBy, memberIn, memberAt, asksAt, settlesAt, FollowsClause}
 use Rattle.lamps.proofs.Numbers.{one-to}
 use Rattle.lamps.proofs.Accepted.{Came, refused, done, came, sends}
-use Rattle.lamps.proofs.Pending.{pending-hit}
+use Rattle.lamps.proofs.Settling.{no-member, none-pending, Lowest, Settling, refuses, settles, settling}
 
 -- of the timers at a place, that of a member
 timer-at : (x : Lamp) (m : ℕ) → getD (timersOf x) (m - 1) 0 ≡ timerIn (gpOf x m)
@@ -102,42 +100,41 @@ cleared [] i = refl
 cleared (b ∷ bs) zero = refl
 cleared (b ∷ bs) (suc i) = cleared bs i
 
-module _ (l : Lamps) (wide : length (l .places) ≡ placeCount) (r : Reply) (i m : ℕ) (who : isMember m ≡ true) (replier : isMember (r .member) ≡ true) where
-  module _ (j : ℕ) (inside : j < placeCount) where
+module _ (l : Lamps) (wide : length (l .places) ≡ placeCount) (r : Reply) (i m : ℕ) (who : isMember m ≡ true) where
+  module _ {j : ℕ} (x : Lowest l r j) where
     abbrev left : Lamp
     left = replied (lampAt l j) (r .member)
 
     one-replies : Replying l r (settledAt l r j) i m
-    one-replies = by (ℕ-discrete i j) (ℕ-discrete (r .member) m)
+    one-replies = by (ℕ-discrete i j)
       where
-        by : Dec (i ≡ j) → Dec (r .member ≡ m) → Replying l r (settledAt l r j) i m
-        by (no q) d =
-            let other : eqb (placeAt j .0) (i + 1) ≡ false = ne-eqb (placeAt j .0) (i + 1) (λ e. q (omega (arith, place-number j inside))) in
-            record { state = rw other (ap (λ (x : Lamp). memberIn x m) (getD-set-other (l .places) j i left blankLamp q)); stopped = rw other }
-        by (yes q) (no d) =
-            let here : eqb (placeAt j .0) (i + 1) ≡ true = eq-eqb (placeAt j .0) (i + 1) (omega (arith, place-number j inside)) in
-            let else : eqb (r .member) m ≡ false = ne-eqb (r .member) m d in
-            let put : lampAt (settledAt l r j .lamps) i ≡ left = rw q (getD-set-same (l .places) j left blankLamp (omega arith)) in
-            let kept : getD (left .pending) (m - 1) false ≡ getD (lampAt l j .pending) (m - 1) false =
-            getD-set-other (lampAt l j .pending) (r .member - 1) (m - 1) false false (λ e. d (omega (arith, one-to 8 m who, one-to 8 (r .member) replier))) in
-            record { state = rw (here, else) (ap (λ (x : Lamp). memberIn x m) put ∙ rw (kept, q)); stopped = rw (here, else) }
-        by (yes q) (yes d) =
-            let here : eqb (placeAt j .0) (i + 1) ≡ true = eq-eqb (placeAt j .0) (i + 1) (omega (arith, place-number j inside)) in
-            let this : eqb (r .member) m ≡ true = eq-eqb (r .member) m d in
-            let put : lampAt (settledAt l r j .lamps) i ≡ left = rw q (getD-set-same (l .places) j left blankLamp (omega arith)) in
-            let none : getD (left .pending) (m - 1) false ≡ false = rw (← d) (cleared (lampAt l j .pending) (r .member - 1)) in
-            record { state = rw (here, this) (ap (λ (x : Lamp). memberIn x m) put ∙ rw (none, q)); stopped = rw (here, this) (rw (d, q)) }
+        by : Dec (i ≡ j) → Replying l r (settledAt l r j) i m
+        by (no q) =
+            let other : eqb (placeAt j .0) (i + 1) ≡ false = ne-eqb (placeAt j .0) (i + 1) (λ e. q (omega (arith, place-number j (x .inside)))) in
+            record { state = rw other (ap (λ (y : Lamp). memberIn y m) (getD-set-other (l .places) j i left blankLamp q)); stopped = rw other }
+        by (yes q) = of-member (ℕ-discrete (r .member) m)
+          where
+            here : eqb (placeAt j .0) (i + 1) ≡ true
+            here = eq-eqb (placeAt j .0) (i + 1) (omega (arith, place-number j (x .inside)))
 
-  found-replies : (f : Found) → findPending r 0 (l .places) ≡ f → Replying l r (settledBy l r f) i m
-  found-replies (At j) e = one-replies j (pending-hit l wide r j e .0)
-  found-replies Nothing e = record { state = refl; stopped = refl }
+            put : lampAt (settledAt l r j .lamps) i ≡ left
+            put = rw q (getD-set-same (l .places) j left blankLamp (omega (arith, x .inside)))
 
-reply-follows : (l : Lamps) → length (l .places) ≡ placeCount → (r : Reply) (i m : ℕ) → isMember m ≡ true → Replying l r (settledOf l r) i m
-reply-follows l wide r i m who = by (isMember (r .member)) refl
-  where
-    by : (b : Bool) → isMember (r .member) ≡ b → Replying l r (cond b (settledBy l r (findPending r 0 (l .places))) (refusedReply l 31)) i m
-    by true q = found-replies l wide r i m who q (findPending r 0 (l .places)) refl
-    by false q = record { state = refl; stopped = refl }
+            of-member : Dec (r .member ≡ m) → Replying l r (settledAt l r j) i m
+            of-member (no d) =
+                let else : eqb (r .member) m ≡ false = ne-eqb (r .member) m d in
+                let kept : getD (left .pending) (m - 1) false ≡ getD (lampAt l j .pending) (m - 1) false =
+                getD-set-other (lampAt l j .pending) (r .member - 1) (m - 1) false false (λ e. d (omega (arith, one-to 8 m who, one-to 8 (r .member) (x .member)))) in
+                record { state = rw (here, else) (ap (λ (y : Lamp). memberIn y m) put ∙ rw (kept, q)); stopped = rw (here, else) }
+            of-member (yes d) =
+                let this : eqb (r .member) m ≡ true = eq-eqb (r .member) m d in
+                let none : getD (left .pending) (m - 1) false ≡ false = rw (← d) (cleared (lampAt l j .pending) (r .member - 1)) in
+                record { state = rw (here, this) (ap (λ (y : Lamp). memberIn y m) put ∙ rw (none, q)); stopped = rw (here, this) (rw (d, q)) }
+
+  reply-follows : {z : Settled} → Settling l r z → Replying l r z i m
+  reply-follows (refuses (no-member w)) = record { state = refl; stopped = refl }
+  reply-follows (refuses (none-pending w none)) = record { state = refl; stopped = refl }
+  reply-follows (settles x) = one-replies x
 
 -- ---- THE CLAUSE
 
@@ -152,7 +149,7 @@ follows-clause s (event e) full i m inside who =
         subst (λ z. Asking (s .lamps) z i m) (sym lit)
         (lit-asked (s .lamps) (full .1) (stepOf (s .table) e .answer) (sends (x .move)) i (x .index) m (x .inside) (x .place) who)
 follows-clause s (reply r) full i m inside who =
-    let f = reply-follows (s .lamps) (full .1) r i m who in
+    let f = reply-follows (s .lamps) (full .1) r i m who (settling (s .lamps) (full .1) r) in
     record { state = f .state; started = by (settlesAt (settledOf (s .lamps) r) r i m); stopped = f .stopped }
   where
     by : (b : Bool) → _≡_ {A = ℕ} 0 (startedBy (cond b replies nothing))

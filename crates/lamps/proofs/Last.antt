@@ -15,8 +15,6 @@ use Rattle.laws.proofs.Bools.{never}
 use Rattle.table.specs.declared.State.{State}
 use Rattle.table.specs.declared.Record.{Record}
 use Rattle.table.specs.declared.Table.{Table}
-use Rattle.table.specs.declared.Found.{Found}
-use Rattle.table.specs.declared.Found.the-variants.{At, Nothing}
 use Rattle.table.specs.Places.{stateNumber, isFree, placeAt, freeRecord, blank, emptyTable, recordAt, placeCount}
 use Rattle.events.specs.declared.Event.{Event}
 use Rattle.events.specs.declared.Answer.{Answer}
@@ -37,13 +35,15 @@ use Rattle.lamps.specs.declared.notice.Asks.{Asks}
 use Rattle.lamps.specs.declared.notice.Asks.the-variants.{NoOne, Each}
 use Rattle.lamps.specs.declared.notice.Lit.{Lit}
 use Rattle.lamps.specs.declared.reply.Reply.{Reply}
-use Rattle.lamps.specs.Members.{gpIn, isMember, darkLamp, blankLamp, lampAt}
+use Rattle.lamps.specs.declared.reply.Settled.{Settled}
+use Rattle.lamps.specs.Members.{gpIn, darkLamp, blankLamp, lampAt}
 use Rattle.lamps.specs.Notice.{isOver, newLamp, litBy}
-use Rattle.lamps.specs.Reply.{findPending, replied, settledBy, refusedReply, settledOf}
+use Rattle.lamps.specs.Reply.{replied}
 use Rattle.lamps.specs.Served.{start}
 use Rattle.lamps.specs.Runs.{Input, event, reply, after, final, eventsIn}
 use Rattle.lamps.specs.Promises.{LastStay, noStay, lastStay, isOff, IsOfLastStay, PendingOff, LampsAgree, Replaces}
 use Rattle.lamps.proofs.Accepted.{on-offer, sends, Came, refused, done, came}
+use Rattle.lamps.proofs.Settling.{Settling, refuses, settles, settling}
 use Rattle.lamps.proofs.Along.{actOf, foldBy, fold-step, Good, full, good-after, good-final, good-start}
 
 -- ---- the lamp of a place
@@ -72,13 +72,9 @@ shown-set (y ∷ ys) zero (suc j) x q = refl
 shown-set (y ∷ ys) (suc i) zero x q = refl
 shown-set (y ∷ ys) (suc i) (suc j) x q = shown-set ys i j x q
 
-reply-shows : (l : Lamps) (r : Reply) (j : ℕ) → shown (lampAt (settledOf l r .lamps) j) ≡ shown (lampAt l j)
-reply-shows l r j = by (isMember (r .member)) (findPending r 0 (l .places))
-  where
-    by : (b : Bool) (f : Found) → shown (lampAt (cond b (settledBy l r f) (refusedReply l 31) .lamps) j) ≡ shown (lampAt l j)
-    by true (At i) = shown-set (l .places) i j (replied (lampAt l i) (r .member)) refl
-    by true Nothing = refl
-    by false f = refl
+reply-shows : {l : Lamps} {r : Reply} {z : Settled} → Settling l r z → (j : ℕ) → shown (lampAt (z .lamps) j) ≡ shown (lampAt l j)
+reply-shows (refuses w) j = refl
+reply-shows {l} {r} (settles {i} x) j = shown-set (l .places) i j (replied (lampAt l i) (r .member)) refl
 
 -- ---- the stay that was last at a place, input by input
 
@@ -154,7 +150,7 @@ module _ (i : ℕ) (inside : i < placeCount) (last : LastStay) (s : Endpoint) (s
 
   input-fits : (x : Input) → FitsAt (after s x) i (lastBy i last s x)
   input-fits (event e) = event-fits e (came (s .lamps) (s .table) e (full good))
-  input-fits (reply r) = fits-shown (reply-shows (s .lamps) r i) fits
+  input-fits (reply r) = fits-shown (reply-shows (settling (s .lamps) (good .wide) r) i) fits
 
 -- ---- along a run
 

@@ -1,5 +1,5 @@
 pub mod Numbers
-pub mod Pending
+pub mod Settling
 pub mod Accepted
 pub mod Clause
 pub mod Along

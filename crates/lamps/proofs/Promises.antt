@@ -1,12 +1,10 @@
 -- THE THEOREMS of `specs/Clause.antt` and `specs/Promises.antt`, by their names there: those that are short, and the others where they are proved.
 use mathlib.Core.Path.{_≡_, refl, sym, ap, _∙_, subst}
-use mathlib.Core.Bool.{Bool, true, false, cond}
+use mathlib.Core.Bool.{true}
 use mathlib.Core.List.{List, [], _∷_}
 use Prim.Native.Nat.{ℕ, _+_, _%_, _^_}
 use native.Mathlib.Nat.{mod-add-mod, zero-add}
 use native.Mathlib.Omega.{arith}
-use Rattle.table.specs.declared.Found.{Found}
-use Rattle.table.specs.declared.Found.the-variants.{At, Nothing}
 use Rattle.events.specs.declared.Event.{Event}
 use Rattle.events.specs.declared.Answer.{Answer}
 use Rattle.step.specs.Step.{stepOf}
@@ -19,13 +17,14 @@ use Rattle.lamps.specs.declared.notice.Asks.{Asks}
 use Rattle.lamps.specs.declared.notice.Asks.the-variants.{NoOne, Each}
 use Rattle.lamps.specs.declared.notice.Lit.{Lit}
 use Rattle.lamps.specs.declared.reply.Reply.{Reply}
+use Rattle.lamps.specs.declared.reply.Settled.{Settled}
 use Rattle.lamps.specs.Members.{isMember}
 use Rattle.lamps.specs.Notice.{litBy}
-use Rattle.lamps.specs.Reply.{findPending, settledBy, refusedReply, settledOf}
 use Rattle.lamps.specs.Served.{start, litOf}
 use Rattle.lamps.specs.Runs.{Input, event, reply, after, final, sum, isRequest, requestTo}
 use Rattle.lamps.specs.Promises.{Unaltered, Numbered}
 use Rattle.lamps.proofs.Accepted.{sends, Came, refused, done, came}
+use Rattle.lamps.proofs.Settling.{Settling, refuses, settles, settling}
 use Rattle.lamps.proofs.Along.{Good, full, good-after, good-final, good-start}
 pub use Rattle.lamps.proofs.Clause.{follows-clause}
 pub use Rattle.lamps.proofs.Clocks.{timers-run}
@@ -54,13 +53,9 @@ counts l i a NoOne = record {
 }
 counts l i a (Each k) = record { carried = λ n q. refl; last = λ n q. rw q (mod-add-mod n (2 ^ 16) 1) }
 
-settled-last : (l : Lamps) (r : Reply) → settledOf l r .lamps .last ≡ l .last
-settled-last l r = by (isMember (r .member)) (findPending r 0 (l .places))
-  where
-    by : (b : Bool) (f : Found) → cond b (settledBy l r f) (refusedReply l 31) .lamps .last ≡ l .last
-    by true (At i) = refl
-    by true Nothing = refl
-    by false f = refl
+settled-last : {l : Lamps} {r : Reply} {z : Settled} → Settling l r z → z .lamps .last ≡ l .last
+settled-last (refuses w) = refl
+settled-last (settles x) = refl
 
 module _ (m : ℕ) (who : isMember m ≡ true) (s : Endpoint) (st : Stays Act) (good : Good s st) where
   event-counts : (e : Event) → Counts (s .lamps) (litOf (s .lamps) (s .table) e (stepOf (s .table) e .answer))
@@ -75,7 +70,7 @@ module _ (m : ℕ) (who : isMember m ≡ true) (s : Endpoint) (st : Stays Act) (
 
   last-after : (x : Input) (n : ℕ) → s .lamps .last .0 ≡ n % 2 ^ 16 → after s x .lamps .last .0 ≡ (n + requestTo m s x) % 2 ^ 16
   last-after (event e) n q = rw who (event-counts e .last n q)
-  last-after (reply r) n q = let same : n + 0 ≡ n = omega arith in rw (who, same) (ap (λ k. k .0) (settled-last (s .lamps) r) ∙ q)
+  last-after (reply r) n q = let same : n + 0 ≡ n = omega arith in rw (who, same) (ap (λ k. k .0) (settled-last (settling (s .lamps) (good .wide) r)) ∙ q)
 
 last-final : (m : ℕ) → isMember m ≡ true → (s : Endpoint) (st : Stays Act) → Good s st → (xs : List Input) (n : ℕ) → s .lamps .last .0 ≡ n % 2 ^ 16
     → final s xs .lamps .last .0 ≡ (n + sum (requestTo m) s xs) % 2 ^ 16

@@ -9,18 +9,17 @@ use lib.Dec.{eqb}
 use lib.ListN.{getD}
 use borrow.Author.Tests.{eqb-true, eq-eqb}
 use Rattle.laws.proofs.Bools.{never, and-left, and-right, and-both, not-both}
-use Rattle.table.specs.declared.Found.{Found}
-use Rattle.table.specs.declared.Found.the-variants.{At, Nothing}
 use Rattle.table.specs.Search.{sameCall}
 use Rattle.table.proofs.Calls.{same-is, same-self}
 use Rattle.lamps.specs.declared.members.Indication.{Indication}
 use Rattle.lamps.specs.declared.members.Indication.the-variants.{On, Off}
 use Rattle.lamps.specs.declared.members.Lamp.{Lamp}
 use Rattle.lamps.specs.declared.reply.Reply.{Reply}
-use Rattle.lamps.specs.Members.{sameIndication, awaits, gpIn, isMember, lampAt}
-use Rattle.lamps.specs.Reply.{sameRequest, isPending, findPending, settledBy, refusedReply, settledOf}
+use Rattle.lamps.specs.declared.reply.Settled.{Settled}
+use Rattle.lamps.specs.Members.{sameIndication, awaits, gpIn, lampAt}
+use Rattle.lamps.specs.Reply.{sameRequest, isPending, settledOf}
 use Rattle.lamps.specs.Promises.{Named, RepliesRight, AreRepliesRight}
-use Rattle.lamps.proofs.Pending.{pending-hit, pending-miss}
+use Rattle.lamps.proofs.Settling.{no-member, none-pending, Settling, refuses, settles, settling}
 
 -- ---- the test, and the four facts
 
@@ -79,31 +78,30 @@ module _ (r : Reply) (x : Lamp) where
 -- ---- THE REPLIES
 
 pub replies-right : AreRepliesRight
-replies-right l r wide = by (isMember (r .member)) refl (findPending r 0 (l .places)) refl
+replies-right l r wide = by (settling l wide r) refl
   where
-    by : (b : Bool) → isMember (r .member) ≡ b → (f : Found) → findPending r 0 (l .places) ≡ f → RepliesRight l r
-    by true who (At i) e =
-        let is : settledOf l r ≡ settledBy l r (At i) = rw (who, e) in
-        let h = pending-hit l wide r i e in
-        record {
-          done = λ q. (who, record { at = i; inside = h .0; place = rw is; named = named-of-test r (lampAt l i) (h .1); lowest = λ j w. not-named r (lampAt l j) (h .2 j w) });
-          no-member = λ q. absurd (let z : _≡_ {A = ℕ} 0 31 = rw is at q in omega arith);
-          none-pending = λ q. absurd (let z : _≡_ {A = ℕ} 0 32 = rw is at q in omega arith);
-          else = λ n. absurd (n (rw is));
-        }
-    by true who Nothing e =
-        let is : settledOf l r ≡ refusedReply l 32 = rw (who, e) in
-        record {
-          done = λ q. absurd (let z : _≡_ {A = ℕ} 32 0 = rw is at q in omega arith);
-          no-member = λ q. absurd (let z : _≡_ {A = ℕ} 32 31 = rw is at q in omega arith);
-          none-pending = λ q. (who, λ j w. not-named r (lampAt l j) (pending-miss l wide r e j w));
-          else = λ n. (inr (rw is), rw is);
-        }
-    by false who f e =
-        let is : settledOf l r ≡ refusedReply l 31 = rw who in
-        record {
-          done = λ q. absurd (let z : _≡_ {A = ℕ} 31 0 = rw is at q in omega arith);
-          no-member = λ q. who;
-          none-pending = λ q. absurd (let z : _≡_ {A = ℕ} 31 32 = rw is at q in omega arith);
-          else = λ n. (inl (rw is), rw is);
-        }
+    by : {z : Settled} → Settling l r z → settledOf l r ≡ z → RepliesRight l r
+    by (settles {i} x) is = record {
+      done = λ q. (x .member, record {
+        at = i;
+        inside = x .inside;
+        place = rw is;
+        named = named-of-test r (lampAt l i) (x .pending);
+        lowest = λ j w. not-named r (lampAt l j) (x .first j w);
+      });
+      no-member = λ q. absurd (let z : _≡_ {A = ℕ} 0 31 = rw is at q in omega arith);
+      none-pending = λ q. absurd (let z : _≡_ {A = ℕ} 0 32 = rw is at q in omega arith);
+      else = λ n. absurd (n (rw is));
+    }
+    by (refuses (none-pending who none)) is = record {
+      done = λ q. absurd (let z : _≡_ {A = ℕ} 32 0 = rw is at q in omega arith);
+      no-member = λ q. absurd (let z : _≡_ {A = ℕ} 32 31 = rw is at q in omega arith);
+      none-pending = λ q. (who, λ j w. not-named r (lampAt l j) (none j w));
+      else = λ n. (inr (rw is), rw is);
+    }
+    by (refuses (no-member who)) is = record {
+      done = λ q. absurd (let z : _≡_ {A = ℕ} 31 0 = rw is at q in omega arith);
+      no-member = λ q. who;
+      none-pending = λ q. absurd (let z : _≡_ {A = ℕ} 31 32 = rw is at q in omega arith);
+      else = λ n. (inl (rw is), rw is);
+    }

@@ -1,13 +1,15 @@
--- The tests are those of the definition; what is found is an index of the lamps (`pending-inside`).
+-- The tests are those of the definition; what is found is an index of the lamps (`first-passing`).
 use mathlib.Core.Path.{_≡_, sym, _∙_}
 use mathlib.Core.Bool.{true, false}
+use native.Mathlib.Omega.{arith}
 use lib.ListN.{length}
 use Rattle.laws.proofs.Runs.{length-mapped}
 use borrow.Author.Needs.{needs}
 use Rattle.table.specs.Places.{placeCount}
-use Rattle.lamps.specs.Members.{isMember}
+use Rattle.table.proofs.Searches.{first-passing}
+use Rattle.lamps.specs.Members.{isMember, blankLamp}
+use Rattle.lamps.specs.Reply.{isPending}
 use Rattle.lamps.proofs.Numbers.{one-to}
-use Rattle.lamps.proofs.Pending.{pending-hit}
 use Rattle.lamps.proofs.reply.settle.Statement.{statement}
 use Rattle.lamps.proofs.reply.settle.Tie as tie
 
@@ -34,7 +36,8 @@ settle-at-requires c κs =
     let who : isMember (s .r .member) ≡ true = cc in
     let size : length (s .l .places) ≡ placeCount = search length-mapped in
     let at = sym (k .find-pending .ensures) ∙ c .before .i .given .1 in
-    (pending-hit (s .l) size (s .r) (c .before .i .given .0 .0) at .0, one-to 8 (s .r .member) who)
+    let found = first-passing (λ i. isPending (s .r)) blankLamp (s .l .places) (c .before .i .given .0 .0) at in
+    (omega (arith, found .0), one-to 8 (s .r .member) who)
 
 enum-told : tie.Need-enum-told
 enum-told c = search needs
