@@ -43,7 +43,7 @@ use Rattle.lamps.specs.declared.reply.Settled.{Settled}
 use Rattle.lamps.specs.Members.{darkLamp}
 use Rattle.lamps.specs.Notice.{litBy}
 use Rattle.lamps.specs.Served.{litOf, start}
-use Rattle.lamps.specs.Runs.{Input, event, reply, after, final, sum, eventsIn}
+use Rattle.lamps.specs.Runs.{Input, event, reply, endpointAfter, final, sum, eventsIn}
 use Rattle.lamps.specs.Promises.{callIn, wasHandedOver}
 use Rattle.lamps.proofs.Accepted.{Came, refused, done, came, sends}
 use Rattle.lamps.proofs.Settling.{Settling, refuses, settles, settling}
@@ -61,7 +61,7 @@ foldBy f a s (reply r) = a
 -- the fold over a run, with its first input taken
 pub fold-step : {A : Type 0} (f : A → Act → A) (fold : A → List Act → A) → ((a : A) (x : Act) (xs : List Act) → fold a (x ∷ xs) ≡ fold (f a x) xs)
     → (a : A) (s : Endpoint) (x : Input) (xs : List Input)
-    → fold a (run machine (s .table) (eventsIn (x ∷ xs))) ≡ fold (foldBy f a s x) (run machine (after s x .table) (eventsIn xs))
+    → fold a (run machine (s .table) (eventsIn (x ∷ xs))) ≡ fold (foldBy f a s x) (run machine (endpointAfter s x .table) (eventsIn xs))
 fold-step f fold go a s (event e) xs = by (machine .accepted (stepOf (s .table) e .answer)) (run machine (stepOf (s .table) e .table) (eventsIn xs))
   where
     by : (b : Bool) (ys : List Act) → fold a (keep b (actOf (s .table) e) ys) ≡ fold (cond b (f a (actOf (s .table) e)) a) ys
@@ -93,7 +93,7 @@ settled-wide : {l : Lamps} {r : Reply} {z : Settled} → Settling l r z → leng
 settled-wide (refuses w) = refl
 settled-wide {l} (settles {i} x) = length-set (l .places) i _
 
-pub good-after : {s : Endpoint} {st : Stays Act} → Good s st → (x : Input) → Good (after s x) (staysBy st s x)
+pub good-after : {s : Endpoint} {st : Stays Act} → Good s st → (x : Input) → Good (endpointAfter s x) (staysBy st s x)
 good-after {s} {st} g (event e) = record { inv = inv (eqb (stepOf (s .table) e .answer .number) 0) refl; wide = wide (came (s .lamps) (s .table) e (full g)) ∙ g .wide }
   where
     inv : (b : Bool) → eqb (stepOf (s .table) e .answer .number) 0 ≡ b
@@ -108,7 +108,7 @@ good-after {s} g (reply r) = record { inv = g .inv; wide = settled-wide (settlin
 
 pub good-final : (s : Endpoint) (st : Stays Act) → Good s st → (xs : List Input) → Good (final s xs) (stays machine st (run machine (s .table) (eventsIn xs)))
 good-final s st g [] = g
-good-final s st g (x ∷ xs) = subst (Good (final s (x ∷ xs))) (sym (fold-step added (stays machine) (λ st y ys. refl) st s x xs)) (good-final (after s x) (staysBy st s x) (good-after g x) xs)
+good-final s st g (x ∷ xs) = subst (Good (final s (x ∷ xs))) (sym (fold-step added (stays machine) (λ st y ys. refl) st s x xs)) (good-final (endpointAfter s x) (staysBy st s x) (good-after g x) xs)
 
 pub good-start : Good start none
 good-start = record { inv = inv-none machine laws; wide = length-replicate placeCount darkLamp }
@@ -229,7 +229,7 @@ pub adds-up : (w : Endpoint → Input → ℕ) (total : Stays Act → ℕ)
     → (s : Endpoint) (st : Stays Act) → Good s st → (xs : List Input) → sum w s xs + total st ≡ total (stays machine st (run machine (s .table) (eventsIn xs)))
 adds-up w total once s st g [] = zero-add (total st)
 adds-up w total once s st g (x ∷ xs) =
-    let rest = adds-up w total once (after s x) (staysBy st s x) (good-after g x) xs in
+    let rest = adds-up w total once (endpointAfter s x) (staysBy st s x) (good-after g x) xs in
     let now = once s st g x in
-    let moved : sum w s (x ∷ xs) + total st ≡ sum w (after s x) xs + total (staysBy st s x) = omega (arith, now) in
+    let moved : sum w s (x ∷ xs) + total st ≡ sum w (endpointAfter s x) xs + total (staysBy st s x) = omega (arith, now) in
     moved ∙ rest ∙ ap total (sym (fold-step added (stays machine) (λ st y ys. refl) st s x xs))

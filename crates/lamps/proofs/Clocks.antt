@@ -16,7 +16,7 @@ use Rattle.lamps.specs.declared.members.Gp.the-variants.{Idle, NotifyOnR
 use Rattle.lamps.specs.declared.members.Lamp.{Lamp}
 use Rattle.lamps.specs.Members.{timerIn, gpOf, isMember, darkLamp, blankLamp}
 use Rattle.lamps.specs.Served.{start}
-use Rattle.lamps.specs.Runs.{Input, after, final}
+use Rattle.lamps.specs.Runs.{Input, endpointAfter, final}
 use Rattle.lamps.specs.Clause.{Member, Happens, is-asked, replies, nothing, next, startedBy, stoppedBy, memberAt, startedAt, stoppedAt, happens, clockAfter, clock, TimersRun}
 use Rattle.lamps.proofs.Clause.{follows-clause}
 use Rattle.lamps.proofs.Along.{Good, full, good-after, good-start}
@@ -44,9 +44,9 @@ module _ (i m : ℕ) (inside : i < placeCount) (who : isMember m ≡ true) where
   runs s st g [] now q = q
   runs s st g (x ∷ xs) now q =
       let f = follows-clause s x (full g, g .wide) i m inside who in
-      let shown : clockAfter (stoppedAt s x i m) (startedAt s x i m) now ≡ timerIn (memberAt (after s x .lamps) i m .gp) =
+      let shown : clockAfter (stoppedAt s x i m) (startedAt s x i m) now ≡ timerIn (memberAt (endpointAfter s x .lamps) i m .gp) =
       rw (f .stopped, f .started, q) (ticks (happens s x i m) (memberAt (s .lamps) i m)) ∙ sym (ap (λ (y : Member). timerIn (y .gp)) (f .state)) in
-      runs (after s x) _ (good-after g x) xs (clockAfter (stoppedAt s x i m) (startedAt s x i m) now) shown
+      runs (endpointAfter s x) _ (good-after g x) xs (clockAfter (stoppedAt s x i m) (startedAt s x i m) now) shown
 
 pub timers-run : TimersRun
 timers-run xs i m inside who =

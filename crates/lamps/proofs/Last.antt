@@ -40,7 +40,7 @@ use Rattle.lamps.specs.Members.{gpIn, darkLamp, blankLamp, lampAt}
 use Rattle.lamps.specs.Notice.{isOver, newLamp, litBy}
 use Rattle.lamps.specs.Reply.{replied}
 use Rattle.lamps.specs.Served.{start}
-use Rattle.lamps.specs.Runs.{Input, event, reply, after, final, eventsIn}
+use Rattle.lamps.specs.Runs.{Input, event, reply, endpointAfter, final, eventsIn}
 use Rattle.lamps.specs.Promises.{LastStay, noStay, lastStay, isOff, IsOfLastStay, PendingOff, LampsAgree, Replaces}
 use Rattle.lamps.proofs.Accepted.{on-offer, sends, Came, refused, done, came}
 use Rattle.lamps.proofs.Settling.{Settling, refuses, settles, settling}
@@ -122,7 +122,7 @@ FitsAt s i last = Fits (lampAt (s .lamps) i) (recordAt (s .table) i) last
 -- ---- one input
 
 module _ (i : ℕ) (inside : i < placeCount) (last : LastStay) (s : Endpoint) (st : Stays Act) (good : Good s st) (fits : FitsAt s i last) where
-  event-fits : (e : Event) → Came (s .lamps) (s .table) e (stepOf (s .table) e) → FitsAt (after s (event e)) i (lastBy i last s (event e))
+  event-fits : (e : Event) → Came (s .lamps) (s .table) e (stepOf (s .table) e) → FitsAt (endpointAfter s (event e)) i (lastBy i last s (event e))
   event-fits e (refused q same lit) = rw (lit, same, q) fits
   event-fits e (done x q from lit) = rw (lit, q) (by (ℕ-discrete i (x .index)))
     where
@@ -148,7 +148,7 @@ module _ (i : ℕ) (inside : i < placeCount) (last : LastStay) (s : Endpoint) (s
           record { offered-on = m .offered-on; held-call = λ h. m .call ∙ sym (x .call-after h); over = m .over ∙ sym (ap isOver (x .state)); call = m .call } in
           rw here (subst (λ k. Fits (lampAt lit-lamps k) (recordAt (stepOf (s .table) e .table) k) (record { call = a .call; over = isOver (a .state) })) (sym w) now)
 
-  input-fits : (x : Input) → FitsAt (after s x) i (lastBy i last s x)
+  input-fits : (x : Input) → FitsAt (endpointAfter s x) i (lastBy i last s x)
   input-fits (event e) = event-fits e (came (s .lamps) (s .table) e (full good))
   input-fits (reply r) = fits-shown (reply-shows (settling (s .lamps) (good .wide) r) i) fits
 
@@ -159,7 +159,7 @@ run-fits : (i : ℕ) → i < placeCount → (s : Endpoint) (st : Stays Act) → 
 run-fits i inside s st good last fits [] = fits
 run-fits i inside s st good last fits (x ∷ xs) =
     subst (FitsAt (final s (x ∷ xs)) i) (sym (fold-step (nowAt i) (lastStay i) (λ before y ys. refl) last s x xs))
-    (run-fits i inside (after s x) _ (good-after good x) (lastBy i last s x) (input-fits i inside last s st good fits x) xs)
+    (run-fits i inside (endpointAfter s x) _ (good-after good x) (lastBy i last s x) (input-fits i inside last s st good fits x) xs)
 
 start-fits : (i : ℕ) → i < placeCount → FitsAt start i noStay
 start-fits i inside =

@@ -21,7 +21,7 @@ use Rattle.lamps.specs.declared.reply.Settled.{Settled}
 use Rattle.lamps.specs.Members.{isMember}
 use Rattle.lamps.specs.Notice.{litBy}
 use Rattle.lamps.specs.Served.{start, litOf}
-use Rattle.lamps.specs.Runs.{Input, event, reply, after, final, sum, isRequest, requestTo}
+use Rattle.lamps.specs.Runs.{Input, event, reply, endpointAfter, final, sum, isRequest, requestTo}
 use Rattle.lamps.specs.Promises.{Unaltered, Numbered}
 use Rattle.lamps.proofs.Accepted.{sends, Came, refused, done, came}
 use Rattle.lamps.proofs.Settling.{Settling, refuses, settles, settling}
@@ -35,9 +35,9 @@ pub use Rattle.lamps.proofs.Replies.{replies-right}
 pub unaltered : Unaltered
 unaltered s [] = (refl, refl)
 unaltered s (event e ∷ xs) =
-    let rest = unaltered (after s (event e)) xs in
+    let rest = unaltered (endpointAfter s (event e)) xs in
     (ap (λ (l : List Answer). stepOf (s .table) e .answer ∷ l) (rest .0), rest .1)
-unaltered s (reply r ∷ xs) = unaltered (after s (reply r)) xs
+unaltered s (reply r ∷ xs) = unaltered (endpointAfter s (reply r)) xs
 
 -- ---- numbers
 
@@ -68,7 +68,7 @@ module _ (m : ℕ) (who : isMember m ≡ true) (s : Endpoint) (st : Stays Act) (
       by (refused q same lit) = subst (Counts (s .lamps)) (sym lit) (counts (s .lamps) 0 a NoOne)
       by (done x q from lit) = subst (Counts (s .lamps)) (sym lit) (counts (s .lamps) (x .index) a (sends (x .move)))
 
-  last-after : (x : Input) (n : ℕ) → s .lamps .last .0 ≡ n % 2 ^ 16 → after s x .lamps .last .0 ≡ (n + requestTo m s x) % 2 ^ 16
+  last-after : (x : Input) (n : ℕ) → s .lamps .last .0 ≡ n % 2 ^ 16 → endpointAfter s x .lamps .last .0 ≡ (n + requestTo m s x) % 2 ^ 16
   last-after (event e) n q = rw who (event-counts e .last n q)
   last-after (reply r) n q = let same : n + 0 ≡ n = omega arith in rw (who, same) (ap (λ k. k .0) (settled-last (settling (s .lamps) (good .wide) r)) ∙ q)
 
@@ -76,7 +76,7 @@ last-final : (m : ℕ) → isMember m ≡ true → (s : Endpoint) (st : Stays Ac
     → final s xs .lamps .last .0 ≡ (n + sum (requestTo m) s xs) % 2 ^ 16
 last-final m who s st good [] n q = let same : n + 0 ≡ n = omega arith in rw same q
 last-final m who s st good (x ∷ xs) n q =
-    last-final m who (after s x) _ (good-after good x) xs (n + requestTo m s x) (last-after m who s st good x n q) ∙ ap (λ (k : ℕ). k % 2 ^ 16) (omega arith)
+    last-final m who (endpointAfter s x) _ (good-after good x) xs (n + requestTo m s x) (last-after m who s st good x n q) ∙ ap (λ (k : ℕ). k % 2 ^ 16) (omega arith)
 
 pub numbered : Numbered
 numbered m who xs (reply r) n q = absurd (let z : _≡_ {A = ℕ} 0 1 = cc q in omega arith)

@@ -22,7 +22,7 @@ use Rattle.lamps.specs.declared.reply.Settled.{Settled}
 use Rattle.lamps.specs.Members.{awaits, timerIn, gpOf, isMember, lampAt}
 use Rattle.lamps.specs.Reply.{settledOf}
 use Rattle.lamps.specs.Served.{start, toldOf}
-use Rattle.lamps.specs.Runs.{Input, event, reply, after, final}
+use Rattle.lamps.specs.Runs.{Input, event, reply, endpointAfter, final}
 
 -- ---- the clause
 
@@ -95,7 +95,7 @@ abbrev pub Sized : Endpoint → Type 0
 Sized s = Full (s .table) × (length (s .lamps .places) ≡ placeCount)
 
 pub record Follows (s : Endpoint) (x : Input) (i m : ℕ) : Type 0 where
-  pub state : memberAt (after s x .lamps) i m ≡ next (happens s x i m) (memberAt (s .lamps) i m)
+  pub state : memberAt (endpointAfter s x .lamps) i m ≡ next (happens s x i m) (memberAt (s .lamps) i m)
   pub started : startedAt s x i m ≡ startedBy (happens s x i m)
   pub stopped : stoppedAt s x i m ≡ stoppedBy (happens s x i m) (memberAt (s .lamps) i m)
 
@@ -112,7 +112,7 @@ clockAfter stopped started now = cond (eqb started 0) (cond (eqb stopped now) 0 
 -- the timer that a host has running for a place and a member, if it does as the answers say and nothing else; 0 is none
 abbrev pub clock : Endpoint → List Input → ℕ → ℕ → ℕ → ℕ
 clock s [] i m now = now
-clock s (x ∷ xs) i m now = clock (after s x) xs i m (clockAfter (stoppedAt s x i m) (startedAt s x i m) now)
+clock s (x ∷ xs) i m now = clock (endpointAfter s x) xs i m (clockAfter (stoppedAt s x i m) (startedAt s x i m) now)
 
 -- `timers-run`: after any run T4 runs exactly in GP-NotifyOnRequ and T5 exactly in GP-NotifyOffRequ
 abbrev pub TimersRun : Type 0

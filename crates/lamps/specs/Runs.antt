@@ -22,18 +22,18 @@ pub data Input : Type 0 where
   reply : Reply → Input
 
 -- a reply leaves the table alone
-abbrev pub after : Endpoint → Input → Endpoint
-after s (event e) = toldOf s e .endpoint
-after s (reply r) = record { table = s .table; lamps = settledOf (s .lamps) r .lamps }
+abbrev pub endpointAfter : Endpoint → Input → Endpoint
+endpointAfter s (event e) = toldOf s e .endpoint
+endpointAfter s (reply r) = record { table = s .table; lamps = settledOf (s .lamps) r .lamps }
 
 abbrev pub final : Endpoint → List Input → Endpoint
 final s [] = s
-final s (x ∷ xs) = final (after s x) xs
+final s (x ∷ xs) = final (endpointAfter s x) xs
 
 -- the sum over a run of a number of each input
 abbrev pub sum : (Endpoint → Input → ℕ) → Endpoint → List Input → ℕ
 sum f s [] = 0
-sum f s (x ∷ xs) = f s x + sum f (after s x) xs
+sum f s (x ∷ xs) = f s x + sum f (endpointAfter s x) xs
 
 abbrev pub eventsIn : List Input → List Event
 eventsIn [] = []
@@ -43,8 +43,8 @@ eventsIn (reply r ∷ xs) = eventsIn xs
 -- the table's answers to the events
 abbrev pub answers : Endpoint → List Input → List Answer
 answers s [] = []
-answers s (event e ∷ xs) = toldOf s e .answer ∷ answers (after s (event e)) xs
-answers s (reply r ∷ xs) = answers (after s (reply r)) xs
+answers s (event e ∷ xs) = toldOf s e .answer ∷ answers (endpointAfter s (event e)) xs
+answers s (reply r ∷ xs) = answers (endpointAfter s (reply r)) xs
 
 -- ---- what goes out
 
