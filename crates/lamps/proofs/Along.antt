@@ -39,7 +39,7 @@ use Rattle.lamps.specs.declared.members.Lamps.{Lamps}
 use Rattle.lamps.specs.declared.notice.Asks.{Asks}
 use Rattle.lamps.specs.declared.notice.Asks.the-variants.{NoOne, Each}
 use Rattle.lamps.specs.declared.reply.Reply.{Reply}
-use Rattle.lamps.specs.declared.reply.Settled.{Settled}
+use Rattle.lamps.specs.declared.reply.Settlement.{Settlement}
 use Rattle.lamps.specs.Members.{darkLamp}
 use Rattle.lamps.specs.Notice.{litBy}
 use Rattle.lamps.specs.Served.{litOf, start}
@@ -89,7 +89,7 @@ lit-wide : (l : Lamps) (i : ℕ) (a : Answer) (asks : Asks) → length (litBy l 
 lit-wide l i a NoOne = refl
 lit-wide l i a (Each n) = length-set (l .places) i _
 
-settled-wide : {l : Lamps} {r : Reply} {z : Settled} → Settling l r z → length (z .lamps .places) ≡ length (l .places)
+settled-wide : {l : Lamps} {r : Reply} {z : Settlement} → Settling l r z → length (z .lamps .places) ≡ length (l .places)
 settled-wide (refuses w) = refl
 settled-wide {l} (settles {i} x) = length-set (l .places) i _
 

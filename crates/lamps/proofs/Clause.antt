@@ -23,7 +23,7 @@ use Rattle.lamps.specs.declared.notice.Asks.{Asks}
 use Rattle.lamps.specs.declared.notice.Asks.the-variants.{NoOne, Each}
 use Rattle.lamps.specs.declared.notice.Lit.{Lit}
 use Rattle.lamps.specs.declared.reply.Reply.{Reply}
-use Rattle.lamps.specs.declared.reply.Settled.{Settled}
+use Rattle.lamps.specs.declared.reply.Settlement.{Settlement}
 use Rattle.lamps.specs.Members.{awaits, timerIn, gpIn, gpOf, timersOf, isMember, blankLamp, lampAt}
 use Rattle.lamps.specs.Notice.{newLamp, unlit, asked, litBy}
 use Rattle.lamps.specs.Reply.{replied, settledAt, settledOf}
@@ -91,7 +91,7 @@ lit-asked l wide a (Each n) i j m inside at who = all-asked l wide a n i j m ins
 
 -- ---- a reply
 
-record Replying (l : Lamps) (r : Reply) (z : Settled) (i m : ℕ) : Type 0 where
+record Replying (l : Lamps) (r : Reply) (z : Settlement) (i m : ℕ) : Type 0 where
   state : memberAt (z .lamps) i m ≡ next (cond (settlesAt z r i m) replies nothing) (memberAt l i m)
   stopped : cond (settlesAt z r i m) (z .stopped) 0 ≡ stoppedBy (cond (settlesAt z r i m) replies nothing) (memberAt l i m)
 
@@ -131,7 +131,7 @@ module _ (l : Lamps) (wide : length (l .places) ≡ placeCount) (r : Reply) (i m
                 let none : getD (left .pending) (m - 1) false ≡ false = rw (← d) (cleared (lampAt l j .pending) (r .member - 1)) in
                 record { state = rw (here, this) (ap (λ (y : Lamp). memberIn y m) put ∙ rw (none, q)); stopped = rw (here, this) (rw (d, q)) }
 
-  reply-follows : {z : Settled} → Settling l r z → Replying l r z i m
+  reply-follows : {z : Settlement} → Settling l r z → Replying l r z i m
   reply-follows (refuses (no-member w)) = record { state = refl; stopped = refl }
   reply-follows (refuses (none-pending w none)) = record { state = refl; stopped = refl }
   reply-follows (settles x) = one-replies x

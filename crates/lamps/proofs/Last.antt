@@ -35,7 +35,7 @@ use Rattle.lamps.specs.declared.notice.Asks.{Asks}
 use Rattle.lamps.specs.declared.notice.Asks.the-variants.{NoOne, Each}
 use Rattle.lamps.specs.declared.notice.Lit.{Lit}
 use Rattle.lamps.specs.declared.reply.Reply.{Reply}
-use Rattle.lamps.specs.declared.reply.Settled.{Settled}
+use Rattle.lamps.specs.declared.reply.Settlement.{Settlement}
 use Rattle.lamps.specs.Members.{gpIn, darkLamp, blankLamp, lampAt}
 use Rattle.lamps.specs.Notice.{isOver, newLamp, litBy}
 use Rattle.lamps.specs.Reply.{replied}
@@ -72,7 +72,7 @@ shown-set (y ∷ ys) zero (suc j) x q = refl
 shown-set (y ∷ ys) (suc i) zero x q = refl
 shown-set (y ∷ ys) (suc i) (suc j) x q = shown-set ys i j x q
 
-reply-shows : {l : Lamps} {r : Reply} {z : Settled} → Settling l r z → (j : ℕ) → shown (lampAt (z .lamps) j) ≡ shown (lampAt l j)
+reply-shows : {l : Lamps} {r : Reply} {z : Settlement} → Settling l r z → (j : ℕ) → shown (lampAt (z .lamps) j) ≡ shown (lampAt l j)
 reply-shows (refuses w) j = refl
 reply-shows {l} {r} (settles {i} x) j = shown-set (l .places) i j (replied (lampAt l i) (r .member)) refl
 

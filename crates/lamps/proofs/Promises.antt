@@ -17,7 +17,7 @@ use Rattle.lamps.specs.declared.notice.Asks.{Asks}
 use Rattle.lamps.specs.declared.notice.Asks.the-variants.{NoOne, Each}
 use Rattle.lamps.specs.declared.notice.Lit.{Lit}
 use Rattle.lamps.specs.declared.reply.Reply.{Reply}
-use Rattle.lamps.specs.declared.reply.Settled.{Settled}
+use Rattle.lamps.specs.declared.reply.Settlement.{Settlement}
 use Rattle.lamps.specs.Members.{isMember}
 use Rattle.lamps.specs.Notice.{litBy}
 use Rattle.lamps.specs.Served.{start, litOf}
@@ -53,7 +53,7 @@ counts l i a NoOne = record {
 }
 counts l i a (Each k) = record { carried = λ n q. refl; last = λ n q. rw q (mod-add-mod n (2 ^ 16) 1) }
 
-settled-last : {l : Lamps} {r : Reply} {z : Settled} → Settling l r z → z .lamps .last ≡ l .last
+settled-last : {l : Lamps} {r : Reply} {z : Settlement} → Settling l r z → z .lamps .last ≡ l .last
 settled-last (refuses w) = refl
 settled-last (settles x) = refl
 

@@ -15,7 +15,7 @@ use Rattle.lamps.specs.declared.members.Indication.{Indication}
 use Rattle.lamps.specs.declared.members.Indication.the-variants.{On, Off}
 use Rattle.lamps.specs.declared.members.Lamp.{Lamp}
 use Rattle.lamps.specs.declared.reply.Reply.{Reply}
-use Rattle.lamps.specs.declared.reply.Settled.{Settled}
+use Rattle.lamps.specs.declared.reply.Settlement.{Settlement}
 use Rattle.lamps.specs.Members.{sameIndication, awaits, gpIn, lampAt}
 use Rattle.lamps.specs.Reply.{sameRequest, isPending, settledOf}
 use Rattle.lamps.specs.Promises.{Named, RepliesRight, AreRepliesRight}
@@ -80,7 +80,7 @@ module _ (r : Reply) (x : Lamp) where
 pub replies-right : AreRepliesRight
 replies-right l r wide = by (settling l wide r) refl
   where
-    by : {z : Settled} → Settling l r z → settledOf l r ≡ z → RepliesRight l r
+    by : {z : Settlement} → Settling l r z → settledOf l r ≡ z → RepliesRight l r
     by (settles {i} x) is = record {
       done = λ q. (x .member, record {
         at = i;

@@ -11,7 +11,7 @@ use Rattle.table.specs.Places.{placeCount}
 use Rattle.table.proofs.Searches.{first-passing, none-passing}
 use Rattle.lamps.specs.declared.members.Lamps.{Lamps}
 use Rattle.lamps.specs.declared.reply.Reply.{Reply}
-use Rattle.lamps.specs.declared.reply.Settled.{Settled}
+use Rattle.lamps.specs.declared.reply.Settlement.{Settlement}
 use Rattle.lamps.specs.Members.{isMember, blankLamp, lampAt}
 use Rattle.lamps.specs.Reply.{isPending, findPending, settledAt, settledBy, refusedReply, settledOf}
 
@@ -27,7 +27,7 @@ pub record Lowest (l : Lamps) (r : Reply) (i : ℕ) : Type 0 where
   pub pending : isPending r (lampAt l i) ≡ true
   pub first : (j : ℕ) → j < i → isPending r (lampAt l j) ≡ false
 
-pub data Settling (l : Lamps) (r : Reply) : Settled → Type 0 where
+pub data Settling (l : Lamps) (r : Reply) : Settlement → Type 0 where
   refuses : {number : ℕ} → Refusal l r number → Settling l r (refusedReply l number)
   settles : {i : ℕ} → Lowest l r i → Settling l r (settledAt l r i)
 

@@ -18,7 +18,7 @@ use Rattle.lamps.specs.declared.notice.Asks.{Asks}
 use Rattle.lamps.specs.declared.notice.Asks.the-variants.{NoOne, Each}
 use Rattle.lamps.specs.declared.notice.Notice.{Notice}
 use Rattle.lamps.specs.declared.reply.Reply.{Reply}
-use Rattle.lamps.specs.declared.reply.Settled.{Settled}
+use Rattle.lamps.specs.declared.reply.Settlement.{Settlement}
 use Rattle.lamps.specs.Members.{awaits, timerIn, gpOf, isMember, lampAt}
 use Rattle.lamps.specs.Reply.{settledOf}
 use Rattle.lamps.specs.Served.{start, toldOf}
@@ -72,7 +72,7 @@ asksAt x NoOne i = nothing
 asksAt x (Each n) i = cond (eqb (x .place .0) (i + 1)) (is-asked n (x .call) (x .invoke .0)) nothing
 
 -- a reply that is accepted is of this place and this member
-abbrev pub settlesAt : Settled → Reply → ℕ → ℕ → Bool
+abbrev pub settlesAt : Settlement → Reply → ℕ → ℕ → Bool
 settlesAt x r i m = eqb (x .number) 0 && (eqb (x .place .0) (i + 1) && eqb (r .member) m)
 
 abbrev pub happens : Endpoint → Input → ℕ → ℕ → Happens

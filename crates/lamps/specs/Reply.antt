@@ -13,7 +13,7 @@ use Rattle.table.specs.Search.{sameCall, lowest}
 use Rattle.lamps.specs.declared.members.Lamp.{Lamp}
 use Rattle.lamps.specs.declared.members.Lamps.{Lamps}
 use Rattle.lamps.specs.declared.reply.Reply.{Reply}
-use Rattle.lamps.specs.declared.reply.Settled.{Settled}
+use Rattle.lamps.specs.declared.reply.Settlement.{Settlement}
 use Rattle.lamps.specs.Members.{sameIndication, gpOf, timerIn, isMember, lampAt}
 
 -- "Responses and expiries name call, member, invoke number and On or Off": the request has this On or Off, this number and this call,
@@ -32,7 +32,7 @@ findPending r = lowest (λ i. isPending r)
 abbrev pub replied : Lamp → ℕ → Lamp
 replied x m = record { indication = x .indication; call = x .call; invoke = x .invoke; pending = set (x .pending) (m - 1) false }
 
-abbrev pub settledAt : Lamps → Reply → ℕ → Settled
+abbrev pub settledAt : Lamps → Reply → ℕ → Settlement
 settledAt l r i = record {
   number = 0;
   place = placeAt i;
@@ -41,13 +41,13 @@ settledAt l r i = record {
 }
 
 -- a refusal changes nothing
-abbrev pub refusedReply : Lamps → ℕ → Settled
+abbrev pub refusedReply : Lamps → ℕ → Settlement
 refusedReply l number = record { number = number; place = noPlace; stopped = 0; lamps = l }
 
-abbrev pub settledBy : Lamps → Reply → Found → Settled
+abbrev pub settledBy : Lamps → Reply → Found → Settlement
 settledBy l r (At i) = settledAt l r i
 settledBy l r Nothing = refusedReply l 32
 
 -- "Refusals: 31 member not 1 to 8, 32 no such request pending, checked in that order."
-abbrev pub settledOf : Lamps → Reply → Settled
+abbrev pub settledOf : Lamps → Reply → Settlement
 settledOf l r = cond (isMember (r .member)) (settledBy l r (findPending r 0 (l .places))) (refusedReply l 31)

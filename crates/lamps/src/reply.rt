@@ -23,7 +23,7 @@ pub struct Reply {
 
 // What a reply came to. Accepted: number 0, the place whose request it settles, the timer that stops there for the member. Refused: 31 or 32, zeros,
 // and the lamps as they were.
-pub struct Settled {
+pub struct Settlement {
     pub number: u8,
     pub place: Place,
     pub stopped: u8,
@@ -79,10 +79,10 @@ fn find_pending(l: Lamps, r: Reply) -> Found
     Found::Nothing
 }
 
-fn refuse(l: Lamps, number: u8) -> Settled
+fn refuse(l: Lamps, number: u8) -> Settlement
     ensures { λ x. ⌜ x ≡ refusedReply l number ⌝ }
 {
-    Settled {
+    Settlement {
         number,
         place: Place(0),
         stopped: 0,
@@ -100,7 +100,7 @@ fn rest(x: Lamp, member: u8) -> Lamp
     next
 }
 
-fn settle_at(l: Lamps, r: Reply, i: usize) -> Settled
+fn settle_at(l: Lamps, r: Reply, i: usize) -> Settlement
     requires { ⌜ (i < 96) × ((1 ≤ r .member) × (r .member ≤ 8)) ⌝ }
     ensures { λ x. ⌜ x ≡ settledAt l r i ⌝ }
 {
@@ -109,7 +109,7 @@ fn settle_at(l: Lamps, r: Reply, i: usize) -> Settled
     let now = rest(was, r.member);
     let mut next = l;
     next.places[i] = now;
-    Settled {
+    Settlement {
         number: 0,
         place: Place::at(i),
         stopped,
@@ -118,7 +118,7 @@ fn settle_at(l: Lamps, r: Reply, i: usize) -> Settled
 }
 
 // A reply of a member, or an expiry. Any lamps and any reply have an answer.
-pub fn settle(l: Lamps, r: Reply) -> Settled
+pub fn settle(l: Lamps, r: Reply) -> Settlement
     ensures { λ x. ⌜ x ≡ settledOf l r ⌝ }
 {
     if is_one_to(Lamps::MEMBERS, r.member as usize) {
