@@ -82,13 +82,16 @@ replies-right l r wide = by (settling l wide r) refl
   where
     by : {z : Settlement} → Settling l r z → settledOf l r ≡ z → RepliesRight l r
     by (settles {i} x) is = record {
-      done = λ q. (x .member, record {
-        at = i;
-        inside = x .inside;
-        place = rw is;
-        named = named-of-test r (lampAt l i) (x .pending);
-        lowest = λ j w. not-named r (lampAt l j) (x .first j w);
-      });
+      done = λ q. (
+        x .member,
+        record {
+          at = i;
+          inside = x .inside;
+          place = rw is;
+          named = named-of-test r (lampAt l i) (x .pending);
+          lowest = λ j w. not-named r (lampAt l j) (x .first j w);
+        },
+      );
       no-member = λ q. absurd (let z : _≡_ {A = ℕ} 0 31 = rw is at q in omega arith);
       none-pending = λ q. absurd (let z : _≡_ {A = ℕ} 0 32 = rw is at q in omega arith);
       else = λ n. absurd (n (rw is));
