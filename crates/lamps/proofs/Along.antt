@@ -108,7 +108,9 @@ good-after {s} g (reply r) = record { inv = g .inv; wide = settled-wide (settlin
 
 pub good-final : (s : Endpoint) (st : Stays Act) → Good s st → (xs : List Input) → Good (final s xs) (stays machine st (run machine (s .table) (eventsIn xs)))
 good-final s st g [] = g
-good-final s st g (x ∷ xs) = subst (Good (final s (x ∷ xs))) (sym (fold-step added (stays machine) (λ st y ys. refl) st s x xs)) (good-final (endpointAfter s x) (staysBy st s x) (good-after g x) xs)
+good-final s st g (x ∷ xs) =
+    subst (Good (final s (x ∷ xs))) (sym (fold-step added (stays machine) (λ st y ys. refl) st s x xs))
+    (good-final (endpointAfter s x) (staysBy st s x) (good-after g x) xs)
 
 pub good-start : Good start none
 good-start = record { inv = inv-none machine laws; wide = length-replicate placeCount darkLamp }
