@@ -1,15 +1,14 @@
 -- An event as the lamps see it: it is refused, and nothing is sent; or it is done at one place, and what is sent goes by the move of that place, of
 -- which there are five (`Move`, crate `step`). All that is promised of the lamps goes by these cases.
 use mathlib.Core.Path.{_≡_, refl, sym, ap, _∙_}
-use mathlib.Core.Bool.{Bool, true, false, cond, _||_}
+use mathlib.Core.Bool.{Bool, true, false}
 use Prim.Native.Nat.{ℕ, _+_, _-_, _≤_, _<_}
 use native.Mathlib.Omega.{arith}
 use lib.Dec.{eqb}
-use borrow.Author.Tests.{eqb-true, eqb-false}
+use borrow.Author.Tests.{eqb-true, eqb-false, ne-eqb}
 use Rattle.laws.proofs.Bools.{never}
 use Rattle.table.specs.declared.State.{State}
 use Rattle.table.specs.declared.State.the-variants.{Free, ParkWaiting, LineWaiting, Requested, RemoteRequested, HandedOver}
-use Rattle.table.specs.declared.Side.the-variants.{Position, Line}
 use Rattle.table.specs.declared.Table.{Table}
 use Rattle.table.specs.declared.Place.{Place}
 use Rattle.table.specs.Places.{stateNumber, isFree, recordAt, placeCount, indexOf}
@@ -17,9 +16,9 @@ use Rattle.events.specs.declared.Event.{Event}
 use Rattle.events.specs.declared.rule.Rule.{Rule}
 use Rattle.events.specs.declared.rule.Rule.the-variants.{Start, Unknown}
 use Rattle.events.specs.declared.rule.Rule.the-variants as Rules
-use Rattle.events.specs.declared.rule.Signal.{Signal}
 use Rattle.events.specs.Rule.{ruleOf}
 use Rattle.events.proofs.Refusals.{refused-not-0}
+use Rattle.events.proofs.RuleLaws.{by-kind}
 use Rattle.step.specs.declared.Step.{Step}
 use Rattle.step.specs.Step.{stepOf}
 use Rattle.step.specs.Promises.{Full, offered, Move, starts, goes-on, hands-over, ends, is-left, AtOnePlace}
@@ -54,20 +53,11 @@ isStart (Start d) = true
 isStart (Rules.On s) = false
 isStart Unknown = false
 
-no-start : (b : Bool) (s : Signal) (k : Rule) → isStart k ≡ false → isStart (cond b (Rules.On s) k) ≡ false
-no-start true s k h = refl
-no-start false s k h = h
-
 kind-starts : (kind : ℕ) → startsStay kind ≡ isStart (ruleOf kind)
-kind-starts kind =
-    by (eqb kind 1) (eqb kind 2) _
-    (no-start (eqb kind 3) _ _ (no-start (eqb kind 4) _ _ (no-start (eqb kind 5) _ _ (no-start (eqb kind 6) _ _
-    (no-start (eqb kind 7) _ _ (no-start (eqb kind 8) _ _ (no-start (eqb kind 9) _ _ (no-start (eqb kind 10) _ Unknown refl))))))))
-  where
-    by : (a b : Bool) (k : Rule) → isStart k ≡ false → (a || b) ≡ isStart (cond a (Start Position) (cond b (Start Line) k))
-    by true b k h = refl
-    by false true k h = refl
-    by false false k h = sym h
+kind-starts =
+    by-kind (λ kind k. startsStay kind ≡ isStart k) refl refl
+    (λ kind s h. rw (ne-eqb kind 1 (λ e. absurd (omega (arith, e))), ne-eqb kind 2 (λ e. absurd (omega (arith, e)))))
+    (λ kind one two. rw (ne-eqb kind 1 one, ne-eqb kind 2 two))
 
 module _ (t : Table) (full : Full t) (e : Event) where
   starts-at : (s : Step) → Stepped t (full .0) e s → s .answer .number ≡ 0 → (x : AtOnePlace t s) → startsStay (e .kind) ≡ isFree (recordAt t (x .index) .state)
