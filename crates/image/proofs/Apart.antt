@@ -3,11 +3,11 @@
 use mathlib.Core.Path.{_≡_, refl, sym, ap, ap₂, _∙_}
 use mathlib.Core.Bool.{Bool, true, false, not, _&&_}
 use mathlib.Core.List.{List}
-use Prim.Native.Nat.{ℕ, _+_, _*_, _<_}
+use Prim.Native.Nat.{ℕ, _<_}
 use native.Mathlib.Omega.{arith}
 use lib.Dec.{eqb}
 use borrow.Author.Tests.{eqb-false, ne-eqb}
-use Rattle.laws.proofs.Bools.{and-both, and-right}
+use Rattle.laws.proofs.Bools.{and-both}
 use Rattle.laws.proofs.Lists.{below-make}
 use Rattle.table.specs.declared.Record.{Record}
 use Rattle.table.specs.Places.{isFree, placeCount, recordAt}
@@ -16,7 +16,7 @@ use Rattle.table.specs.Sound.{clash, callsDiffer, recordSound, isSound}
 use Rattle.table.specs.Ranks.{isRanked}
 use Rattle.table.proofs.Calls.{same-is}
 use Rattle.table.proofs.Facts.{facts-of-test}
-use Rattle.image.specs.Image.{placeStart, recordFrom, stateOctet, recordIn, tableFrom, statesFit, placesSound}
+use Rattle.image.specs.Image.{placeStart, recordFrom, stateOctet, recordIn, tableFrom, placesSound}
 use Rattle.image.specs.Quick.{placeFits, Busy, callAt, Apart}
 use Rattle.image.proofs.Round.{record-at}
 use Rattle.image.proofs.PlaceLaws.{free-octet, states-fit, record-fits}

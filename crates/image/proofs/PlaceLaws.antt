@@ -4,24 +4,24 @@ use mathlib.Core.Path.{_≡_, refl, sym, ap, _∙_}
 use mathlib.Core.Bool.{Bool, true, false, cond, not, _&&_}
 use mathlib.Core.List.{List}
 use mathlib.Core.Logic.{⊎-elim}
-use Prim.Native.Nat.{ℕ, zero, suc, _+_, _*_, _<_, _≤_}
+use Prim.Native.Nat.{ℕ, zero, suc, _+_, _<_, _≤_}
 use native.Mathlib.Omega.{arith}
-use lib.Dec.{eqb, ltb}
+use lib.Dec.{eqb}
 use lib.ListN.{getD}
 use borrow.Author.Tests.{lt-ltb, le-ltb, eq-eqb, ne-eqb}
 use Rattle.laws.proofs.Bools.{and-left, and-right, and-both, less-or}
 use Rattle.laws.proofs.Lists.{below-get, below-make}
 use Rattle.table.specs.declared.State.{State}
-use Rattle.table.specs.declared.State.the-variants.{Free, ParkWaiting, LineWaiting, Requested, RemoteRequested, HandedOver}
+use Rattle.table.specs.declared.State.the-variants.{Free, RemoteRequested, HandedOver}
 use Rattle.table.specs.declared.Side.{Side}
 use Rattle.table.specs.declared.Side.the-variants.{Position, Line}
 use Rattle.table.specs.declared.Record.{Record}
 use Rattle.table.specs.Places.{stateNumber, sameState, isFree, isState, stateOf, waitingOn, missingOn, placeCount, sideAt, recordAt}
 use Rattle.table.specs.Search.{isAt}
-use Rattle.table.specs.Sound.{fitsSide, allZeros, tidyIn, recordFits, recordSound, recordsSound, isSound}
-use Rattle.table.specs.Ranks.{heldOn, isRanked}
+use Rattle.table.specs.Sound.{fitsSide, allZeros, tidyIn, recordFits, recordSound, recordsSound}
+use Rattle.table.specs.Ranks.{heldOn}
 use Rattle.table.proofs.Facts.{free-fits}
-use Rattle.table.proofs.Sides.{same-side, other-side}
+use Rattle.table.proofs.Sides.{same-side}
 use Rattle.table.proofs.States.{state-back, number-back}
 use Rattle.image.specs.Image.{connectionOffset, placeStart, pairAt, recordFrom, stateOctet, recordIn, tableFrom, statesFit, placesSound}
 use Rattle.image.specs.Quick.{placeFits}
@@ -75,12 +75,9 @@ module _ (s : List ℕ) (a : Side) (i : ℕ) where
       ap (λ (r : Record). isAt a (waitingOn a) i r) (record-at s i h)
       ∙ rw (same-side (sideAt i) a side) (octet-tells (waitingOn a) (stateOctet s i) (waiting-low a))
 
-  -- a call is counted on the side of its place alone
+  -- a call is counted on the side of its place
   pub counted : sideAt i ≡ a → heldOn a i (recordIn s i) ≡ cond (not (eqb (stateOctet s i) 0)) 1 0
   counted side = rw (same-side (sideAt i) a side, free-octet s (placeStart i))
-
-  pub not-counted : (sideAt i ≡ a → ⊥) → heldOn a i (recordIn s i) ≡ 0
-  not-counted other = rw (other-side (sideAt i) a other)
 
 -- ---- the test of a place
 

@@ -1,8 +1,8 @@
 -- A record put anew in the image of a table is put anew in the table: the ranks of its side first, one after the other, and then its octets.
-use mathlib.Core.Path.{_≡_, refl, sym, ap, ap₂, _∙_}
+use mathlib.Core.Path.{_≡_, refl, ap, ap₂, _∙_}
 use mathlib.Core.Bool.{Bool, true, false}
 use mathlib.Core.List.{List}
-use Prim.Native.Nat.{ℕ, zero, suc, _+_, _*_, _≤_, _<_}
+use Prim.Native.Nat.{ℕ, zero, suc, _+_, _≤_, _<_}
 use native.Mathlib.Omega.{arith}
 use lib.ListN.{length, set}
 use lib.Seq.{sets}
@@ -13,7 +13,7 @@ use Rattle.table.specs.Places.{isFree, placeCount, sideAt, callOctets, recordAt
 use Rattle.table.specs.Ranks.{callsOn, lowered, closedUp, reranked, put}
 use Rattle.table.proofs.RankLaws.{closed-size}
 use Rattle.table.proofs.Keep.{reranked-wide, put-size, put-wide, each}
-use Rattle.image.specs.Image.{Fit, placeOctets, recordOctets, placeStart, rankIndex, octetsOf, imageOf, rerankedIn, placePut}
+use Rattle.image.specs.Image.{Fit, placeStart, rankIndex, octetsOf, imageOf, rerankedIn, placePut}
 use Rattle.image.proofs.Round.{table-back, record-written, rank-written, record-image, rank-image}
 
 -- the ranks of two places stand apart

@@ -7,7 +7,7 @@ use mathlib.Core.List.{List, [], _∷_, _++_, append-assoc}
 use Prim.Native.Nat.{ℕ, zero, suc, _+_, _*_, _/_, _%_, _≤_, _<_}
 use native.Mathlib.Nat.{zero-add}
 use native.Mathlib.Omega.{arith}
-use lib.Dec.{eqb, ltb}
+use lib.Dec.{eqb}
 use lib.ListN.{length, take, drop, getD, set, length-append, length-drop, drop-of-length-le}
 use lib.Seq.{sets, set-at, set-split, take-at, drop-at, getD-at, length-take-le, getD-append-add, drop-cons, drop-drop, take-add, getD-drop, split-at, ext-getD}
 use borrow.Author.Tests.{eqb-true, ltb-true, eq-eqb, lt-ltb}

@@ -9,6 +9,7 @@ use table::Place;
 use table::State;
 ghost use mathlib.Core.Path.{_≡_};
 ghost use Prim.Native.Nat.{_<_};
+ghost use Rattle.table.specs.Places.{placeCount};
 ghost use Rattle.lamps.specs.Notice.{startsStay, isOver, hadOff, asksFor, noNotice, unlit, newLamp, asked, litBy};
 
 // The paper's numbers of two states.
@@ -117,7 +118,7 @@ fn new_lamp(n: Indication, call: [u8; 16], invoke: Invoke) -> Lamp
 
 // The same request to each member, with the next number, in place of what was pending here.
 fn ask_each(l: Lamps, i: usize, a: Answer, n: Indication) -> Lit
-    requires { ⌜ i < 96 ⌝ }
+    requires { ⌜ i < placeCount ⌝ }
     ensures { λ r. ⌜ r ≡ asked l i a n ⌝ }
 {
     let was = l.places[i];
@@ -146,7 +147,7 @@ fn ask_each(l: Lamps, i: usize, a: Answer, n: Indication) -> Lit
 
 // What the answer to an accepted event sends, at the index of its place.
 pub(crate) fn notify(l: Lamps, i: usize, kind: u8, before: State, a: Answer) -> Lit
-    requires { ⌜ i < 96 ⌝ }
+    requires { ⌜ i < placeCount ⌝ }
     ensures { λ r. ⌜ r ≡ litBy l i a (asksFor kind before (a .state)) ⌝ }
 {
     match asks_for(kind, before, a.state) {

@@ -12,6 +12,7 @@ use table::Table;
 use table::search;
 ghost use mathlib.Core.Path.{_≡_};
 ghost use Prim.Native.Nat.{_<_, _≤_};
+ghost use Rattle.table.specs.Places.{placeCount};
 ghost use Rattle.lamps.specs.Reply.{sameRequest, isPending, findPending, refusedReply, replied, settledAt, settledOf};
 
 pub struct Reply {
@@ -101,7 +102,7 @@ fn rest(x: Lamp, member: u8) -> Lamp
 }
 
 fn settle_at(l: Lamps, r: Reply, i: usize) -> Settlement
-    requires { ⌜ (i < 96) × ((1 ≤ r .member) × (r .member ≤ 8)) ⌝ }
+    requires { ⌜ (i < placeCount) × ((1 ≤ r .member) × (r .member ≤ 8)) ⌝ }
     ensures { λ x. ⌜ x ≡ settledAt l r i ⌝ }
 {
     let was = l.places[i];

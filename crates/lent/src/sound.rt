@@ -1,6 +1,6 @@
 // Is an image one of a sound table? The test is made on the octets, eight at a time, so that no table has to be read for it. A call is
-// compared only with the earlier calls of its bucket: a bucket has its last place, and each place the one before it. A rank is marked, so that
-// one which stands twice is found at once.
+// compared only with the earlier calls of its bucket: `last` heads each bucket's list, and `before` links it. A rank is marked, so that one which stands
+// twice is found at once.
 
 use crate::octets;
 use crate::words;

@@ -27,7 +27,7 @@ fn take(image: &mut [u8], line: &[u8]) {
 }
 
 fn main() {
-    let mut image = [0u8; 2112];
+    let mut image = [0u8; image::IMAGE_OCTETS];
     take(
         &mut image,
         b"1\t00000000000000000000000000000001\t17\t0\t0\t0\t0",

@@ -12,6 +12,7 @@ use table::Side;
 use table::State;
 use table::Table;
 ghost use Prim.Native.Nat.{_<_};
+ghost use Rattle.table.specs.Places.{placeCount};
 
 const CALL: [u8; 16] = [1; 16];
 
@@ -31,7 +32,7 @@ enum Reply {
 
 // The index of the side's first place, which stands for all places of that side.
 fn index_of(side: Side) -> usize
-    ensures { λ i. ⌜ i < 96 ⌝ }
+    ensures { λ i. ⌜ i < placeCount ⌝ }
 {
     match side {
         Side::Position => 0,

@@ -2,15 +2,11 @@
 -- into what it says of each index, and each test into its fact.
 use mathlib.Core.Path.{_≡_, refl, sym, ap, _∙_}
 use mathlib.Core.Bool.{Bool, true, false, not}
-use mathlib.Core.List.{List, [], _∷_}
 use mathlib.Core.Logic.{_↔_, ⊎-elim}
-use Prim.Native.Nat.{ℕ, zero, suc, _+_, _-_, _<_, _≤_}
-use native.Mathlib.Nat.{add-zero, zero-add, not-suc-le-zero, le-of-suc-le-suc}
+use Prim.Native.Nat.{ℕ, _-_, _<_, _≤_}
 use native.Mathlib.Omega.{arith}
 use lib.Dec.{eqb}
 use borrow.Author.Tests.{eqb-true, eq-eqb, leb-true, le-leb, not-true}
-use lib.ListN.{length, drop, getD, length-drop}
-use lib.Seq.{getD-drop}
 use Rattle.laws.specs.Lists.{below}
 use Rattle.laws.proofs.Bools.{and-left, and-right, and-both, not-both, less-or}
 use Rattle.laws.proofs.Lists.{below-get, below-make}
@@ -20,7 +16,7 @@ use Rattle.table.specs.declared.Side.{Side}
 use Rattle.table.specs.declared.Side.the-variants.{Position, Line}
 use Rattle.table.specs.declared.Record.{Record}
 use Rattle.table.specs.declared.Table.{Table}
-use Rattle.table.specs.Places.{stateNumber, isFree, sideAt, noCall, noConnection, freeRecord, emptyTable, blank, recordAt, rankAt, placeCount}
+use Rattle.table.specs.Places.{stateNumber, isFree, sideAt, noCall, noConnection, freeRecord, emptyTable, recordAt, rankAt, placeCount}
 use Rattle.table.specs.Search.{sameCall, holds}
 use Rattle.table.specs.Ranks.{callsOn, rankIn, rankFits, ranksDiffer, rankSound, isRanked}
 use Rattle.table.specs.Sound.{fitsSide, allZeros, tidyIn, clash, recordFits, callsDiffer, recordSound, recordsSound, isSound, Sound}

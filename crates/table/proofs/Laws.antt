@@ -12,10 +12,9 @@ use Rattle.table.specs.declared.State.{State}
 use Rattle.table.specs.declared.State.the-variants.{Free, ParkWaiting, LineWaiting, Requested, RemoteRequested, HandedOver}
 use Rattle.table.specs.declared.Side.{Side}
 use Rattle.table.specs.declared.Side.the-variants.{Position, Line}
-use Rattle.table.specs.declared.Record.{Record}
-use Rattle.table.specs.Places.{stateNumber, sideIndex, blank}
+use Rattle.table.specs.Places.{sideIndex}
 use Rattle.table.specs.Timers.{timerSet}
-use Rattle.table.specs.Search.{sameCall, total}
+use Rattle.table.specs.Search.{sameCall}
 use Rattle.table.specs.Status.{waitsIn}
 
 pub same-at : (a b : List ℕ) (i : ℕ) → i < length a → i < length b

@@ -1,6 +1,6 @@
 -- Places and records (document 01, "Places and records"): the paper's numbers of the states, the side of a place, the free
 -- record, the one empty table. A place is counted from 1, as the paper does; an index from 0.
-use mathlib.Core.Bool.{Bool, true, false, cond}
+use mathlib.Core.Bool.{Bool, false, cond}
 use mathlib.Core.List.{List, []}
 use Prim.Native.Nat.{ℕ, zero, suc, _+_}
 use lib.Dec.{eqb, ltb, leb}

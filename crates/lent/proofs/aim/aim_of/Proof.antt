@@ -1,8 +1,6 @@
 -- By what the event looks for: each arm is a clause of `aimFor`.
 use mathlib.Core.Path.{_≡_, sym, ap, _∙_}
-use Rattle.table.specs.declared.Table.{Table}
 use Rattle.events.specs.declared.sought.Sought.{Sought}
-use Rattle.events.specs.Sought.{soughtBy}
 use Rattle.events.specs.Rule.{ruleOf}
 use Rattle.step.specs.Aim.{aimFor, aim}
 use Rattle.image.specs.Image.{tableFrom}

@@ -1,13 +1,12 @@
 -- The records and the ranks so far are those of the definition, index by index.
-use mathlib.Core.Path.{_≡_, refl, sym, ap, _∙_}
+use mathlib.Core.Path.{_≡_, refl, sym, _∙_}
 use mathlib.Core.List.{List}
 use mathlib.Core.Logic.{⊎-elim}
-use Prim.Native.Nat.{ℕ, _+_, _-_, _*_, _≤_, _<_}
+use Prim.Native.Nat.{ℕ, _+_, _-_, _≤_, _<_}
 use native.Mathlib.Omega.{arith}
 use lib.ListN.{length, getD, set, length-set}
 use lib.Seq.{getD-set-same, getD-set-other, ext-getD}
 use Rattle.laws.proofs.Bools.{equal-or}
-use Rattle.table.specs.declared.Record.{Record}
 use Rattle.table.specs.Places.{placeCount, blank, recordAt, rankAt}
 use Rattle.image.specs.Image.{rankOctet, tableFrom}
 use Rattle.image.proofs.Round.{size-from, wide-from, record-at, rank-at}

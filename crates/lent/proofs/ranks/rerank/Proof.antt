@@ -1,15 +1,10 @@
 -- Each of the four ways is a clause of the definition. A side has at most 96 calls, and so one more has a rank that is an octet.
 use mathlib.Core.Path.{_≡_, sym, ap, _∙_}
-use Prim.Native.Nat.{_*_}
 use native.Mathlib.Omega.{arith}
 use borrow.Author.Tests.{eq-eqb, ne-eqb, not-true, not-false}
-use Rattle.table.specs.declared.Side.{Side}
-use Rattle.table.specs.Places.{sideAt, placeCount}
+use Rattle.table.specs.Places.{sideAt}
 use Rattle.table.specs.Ranks.{callsOn}
-use Rattle.table.specs.Marks.{ofSide}
 use Rattle.table.proofs.RankLaws.{calls-few}
-use Rattle.table.proofs.MarkLaws.{side-calls}
-use Rattle.image.specs.declared.ranks.Calls.{Calls}
 use Rattle.image.specs.Image.{placeStart, tableFrom}
 use Rattle.image.proofs.Round.{size-from}
 use Rattle.image.proofs.PlaceLaws.{free-octet}

@@ -3,7 +3,6 @@ use mathlib.Core.Path.{_≡_, sym, ap, _∙_}
 use Prim.Native.Nat.{ℕ}
 use native.Mathlib.Omega.{arith}
 use lib.Dec.{eqb}
-use Rattle.table.specs.declared.Side.{Side}
 use Rattle.table.specs.Places.{stateNumber, missingOn, sideAt}
 use Rattle.image.proofs.PlaceLaws.{fits-free, fits-none, fits-missing, fits-remote, fits-other}
 use borrow.Author.Needs.{needs}

@@ -1,17 +1,16 @@
 -- The places that were looked at fit and are entered, and so are their ranks. A place that does not fit, or a call or a rank that stands twice, decides
 -- against the image; when all are entered, it is one of a sound table.
 use mathlib.Core.Path.{_≡_, refl, sym, subst, _∙_}
-use mathlib.Core.Bool.{Bool, true, false, _&&_}
-use mathlib.Core.Logic.{⊎-elim}
-use Prim.Native.Nat.{ℕ, _-_, _≤_, _<_}
+use mathlib.Core.Bool.{Bool, true, false}
+use Prim.Native.Nat.{ℕ, _-_, _≤_}
 use native.Mathlib.Omega.{arith}
 use borrow.Author.Tests.{not-true, not-false}
 use Rattle.laws.specs.Lists.{below}
-use Rattle.laws.proofs.Bools.{and-left, and-right, not-both, equal-or}
+use Rattle.laws.proofs.Bools.{and-right, not-both}
 use Rattle.laws.proofs.Lists.{below-none, below-more, below-get}
 use Rattle.table.specs.Places.{placeCount}
-use Rattle.table.specs.Sound.{recordsSound, isSound}
-use Rattle.table.specs.Ranks.{rankSound, isRanked}
+use Rattle.table.specs.Sound.{recordsSound}
+use Rattle.table.specs.Ranks.{rankSound}
 use Rattle.table.specs.Marks.{Entering}
 use Rattle.table.proofs.MarkLaws.{entering-none}
 use Rattle.image.specs.Image.{tableFrom, statesFit, placesSound}
