@@ -6,6 +6,7 @@ use mathlib.Core.Logic.{_↔_, ⊎-elim}
 use Prim.Native.Nat.{ℕ, _-_, _<_, _≤_}
 use native.Mathlib.Omega.{arith}
 use lib.Dec.{eqb}
+use lib.Count.{ones, onesIn}
 use borrow.Author.Tests.{eqb-true, eq-eqb, leb-true, le-leb, not-true}
 use Rattle.laws.specs.Lists.{below}
 use Rattle.laws.proofs.Bools.{and-left, and-right, and-both, not-both, less-or}
@@ -20,6 +21,7 @@ use Rattle.table.specs.Places.{stateNumber, isFree, sideAt, noCall, noCo
 use Rattle.table.specs.Search.{sameCall, holds}
 use Rattle.table.specs.Ranks.{callsOn, rankIn, rankFits, ranksDiffer, rankSound, isRanked}
 use Rattle.table.specs.Sound.{fitsSide, allZeros, tidyIn, clash, recordFits, callsDiffer, recordSound, recordsSound, isSound, Sound}
+use Rattle.table.specs.Status.{StatusOfTwo}
 use Rattle.table.proofs.States.{free-state}
 use Rattle.table.proofs.RankLaws.{alike, differ}
 use Rattle.table.proofs.Calls.{same-is, holds-occupied, holds-same, occupied-holds}
@@ -183,3 +185,8 @@ module _ (t : Table) where
 pub empty-sound : isSound emptyTable ≡ true
 unfolding below
 empty-sound = refl
+
+-- the example of the status
+pub status-of-two : StatusOfTwo
+unfolding below ones onesIn
+status-of-two = refl

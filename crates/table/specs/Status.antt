@@ -1,7 +1,9 @@
 -- The status query (document 01, "Status gives .."): four sums over the places.
+use mathlib.Core.Path.{_≡_}
 use mathlib.Core.Bool.{cond}
 use Prim.Native.Nat.{ℕ}
 use lib.Count.{ones}
+use lib.ListN.{set}
 use Rattle.table.specs.declared.State.{State}
 use Rattle.table.specs.declared.State.the-variants.{Free, ParkWaiting, LineWaiting, Requested, RemoteRequested, HandedOver}
 use Rattle.table.specs.declared.Side.{Side}
@@ -9,7 +11,7 @@ use Rattle.table.specs.declared.Side.the-variants.{Position, Line}
 use Rattle.table.specs.declared.Record.{Record}
 use Rattle.table.specs.declared.Table.{Table}
 use Rattle.table.specs.declared.status.Status.{Status}
-use Rattle.table.specs.Places.{sideAt}
+use Rattle.table.specs.Places.{positionCount, sideAt, noCall, noConnection, noInvoke, emptyTable}
 use Rattle.table.specs.Timers.{timerSet}
 use Rattle.table.specs.Search.{isAt, total}
 use Rattle.table.specs.Sound.{isSound}
@@ -49,3 +51,15 @@ unsoundStatus = record { number = 25; positions = 0; lines = 0; waiting = 0; tim
 
 abbrev pub statusOf : Table → Status
 statusOf t = cond (isSound t) (tallyOf t) unsoundStatus
+
+-- ---- an example, computed: at position 1 a call is asked for from elsewhere (T3 and T9 run), and at line 65 another waits
+
+abbrev pub twoCalls : Table
+twoCalls = record {
+  places = set (set (emptyTable .places) 0 (record { state = RemoteRequested; call = noCall; connection = record { 0 = 900 }; count = record { 0 = 1 } }))
+      positionCount (record { state = LineWaiting; call = set noCall 0 1; connection = noConnection; count = noInvoke });
+  ranks = set (set (emptyTable .ranks) 0 1) positionCount 1;
+}
+
+abbrev pub StatusOfTwo : Type 0
+StatusOfTwo = statusOf twoCalls ≡ record { number = 0; positions = 63; lines = 31; waiting = 1; timers = 2 }
