@@ -45,10 +45,10 @@ install: $(LIBRARY) $(PROGRAM)
 	install -m 644 man/park_bad_field.3 $(INSTALLED)/share/man/man3/park_bad_field.3
 
 # The library and the programs beside the peer's, as one table in Markdown; cargo bench builds in release mode. Under an emulator a time says
-# nothing, and valgrind, which counts the instructions, cannot run.
+# nothing, and valgrind, which counts the instructions, cannot run: there PARK_COUNTER names a program that counts them.
 bench: $(LIBRARY) $(PROGRAM) $(LAMPLINE)
-	@[ "$$(uname -m)" = x86_64 ] || { echo "make bench measures, and needs an x86-64 machine; this one is $$(uname -m)" >&2; exit 1; }
-	@cd tests/peer && cargo bench --offline --bench park
+	@[ "$$(uname -m)" = x86_64 ] || [ -n "$$PARK_COUNTER" ] || { echo "make bench needs an x86-64 machine, or a counter of instructions (PARK_COUNTER)" >&2; exit 1; }
+	@bash -c '. .ci/x86-64.sh >&2 && cd tests/peer && cargo bench --offline --bench park'
 
 $(LIBRARY):
 	rt staticlib entry
