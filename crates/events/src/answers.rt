@@ -5,9 +5,11 @@ use crate::Event;
 use crate::message::Message;
 use crate::refusal::Refusal;
 use crate::rule;
+use table::Call;
 use table::Place;
 use table::Side;
 use table::State;
+use table::Table;
 use table::timers;
 ghost use mathlib.Core.Path.{_≡_};
 ghost use Rattle.events.specs.declared.message.Message.the-variants.{NoMessage};
@@ -18,7 +20,7 @@ pub(crate) fn accept(
     i: usize,
     before: State,
     after: State,
-    call: [u8; 16],
+    call: Call,
     first: Message,
     second: Message,
 ) -> Answer
@@ -42,7 +44,7 @@ fn say(number: u8, m: Message) -> Answer
 {
     Answer {
         number,
-        call: [0; 16],
+        call: [0; Table::CALL_OCTETS],
         place: Place(0),
         state: 0,
         first: m.sent(),

@@ -12,6 +12,7 @@ pub mod turn;
 use message::Message;
 use message::Sent;
 use rule::Rule;
+use table::Call;
 use table::Connection;
 use table::Invoke;
 use table::Place;
@@ -24,7 +25,7 @@ ghost use Rattle.events.specs.Act.{changed, stayCall, left, acted};
 // An event. Fields that its kind does not name are ignored.
 pub struct Event {
     pub kind: u8,
-    pub call: [u8; 16],
+    pub call: Call,
     pub place: Place,
     pub choice: u8,
     pub connection: Connection,
@@ -35,7 +36,7 @@ pub struct Event {
 // The fourteen fields of an answer line, of which each message fills four. The first message is sent before the second.
 pub struct Answer {
     pub number: u8,
-    pub call: [u8; 16],
+    pub call: Call,
     pub place: Place,
     pub state: u8,
     pub first: Sent,
@@ -51,14 +52,7 @@ pub struct Acted {
 }
 
 // The place has a new record.
-fn change(
-    i: usize,
-    old: Record,
-    new: Record,
-    call: [u8; 16],
-    first: Message,
-    second: Message,
-) -> Acted
+fn change(i: usize, old: Record, new: Record, call: Call, first: Message, second: Message) -> Acted
     ensures { λ r. ⌜ r ≡ changed i old new call first second ⌝ }
 {
     let before = old.state;
@@ -70,7 +64,7 @@ fn change(
 }
 
 // The call of the stay: a park or an alert brings it, and any other event finds it.
-fn stay_call(k: Rule, e: Event, r: Record) -> [u8; 16]
+fn stay_call(k: Rule, e: Event, r: Record) -> Call
     ensures { λ x. ⌜ x ≡ stayCall k e r ⌝ }
 {
     match k {
@@ -81,7 +75,7 @@ fn stay_call(k: Rule, e: Event, r: Record) -> [u8; 16]
 }
 
 // What an outcome leaves at a place. A refusal leaves its record.
-fn leave(e: Event, i: usize, r: Record, call: [u8; 16], u: Outcome) -> Acted
+fn leave(e: Event, i: usize, r: Record, call: Call, u: Outcome) -> Acted
     ensures { λ x. ⌜ x ≡ left e i r call u ⌝ }
 {
     match u {

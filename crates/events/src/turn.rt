@@ -6,6 +6,7 @@ use crate::message::Message;
 use crate::refusal::Refusal;
 use crate::rule::Rule;
 use crate::rule::Signal;
+use table::Call;
 use table::Connection;
 use table::Invoke;
 use table::Record;
@@ -80,7 +81,7 @@ fn connection_at(s: Stage) -> Connection
 }
 
 // The record of a call at a stage.
-pub(crate) fn held_record(a: Side, s: Stage, call: [u8; 16], n: Invoke) -> Record
+pub(crate) fn held_record(a: Side, s: Stage, call: Call, n: Invoke) -> Record
     ensures { λ r. ⌜ r ≡ heldRecord a s call n ⌝ }
 {
     Record {

@@ -1,6 +1,7 @@
 // What is kept of each place for the eight members, and the state of a place and a member. A request goes to all eight at once, so that On or Off,
 // the call and the number are the place's; the member's is only whether it has still to reply.
 
+use table::Call;
 use table::Invoke;
 use table::Place;
 use table::Table;
@@ -24,7 +25,7 @@ pub enum Gp {
 // One place: the request that was last sent to each member, and which of them have still to reply to it.
 pub struct Lamp {
     pub indication: Indication,
-    pub call: [u8; 16],
+    pub call: Call,
     pub invoke: Invoke,
     pub pending: [bool; Lamps::MEMBERS],
 }
@@ -89,7 +90,7 @@ impl Lamp {
     {
         Lamp {
             indication: Indication::Off,
-            call: [0; 16],
+            call: [0; Table::CALL_OCTETS],
             invoke: Invoke(0),
             pending: [false; Lamps::MEMBERS],
         }

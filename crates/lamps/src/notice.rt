@@ -4,9 +4,11 @@ use crate::members::Indication;
 use crate::members::Lamp;
 use crate::members::Lamps;
 use events::Answer;
+use table::Call;
 use table::Invoke;
 use table::Place;
 use table::State;
+use table::Table;
 ghost use mathlib.Core.Path.{_≡_};
 ghost use Prim.Native.Nat.{_<_};
 ghost use Rattle.table.specs.Places.{placeCount};
@@ -27,7 +29,7 @@ pub enum Asks {
 // Zeros everywhere where no one is asked.
 pub struct Notice {
     pub asks: Asks,
-    pub call: [u8; 16],
+    pub call: Call,
     pub place: Place,
     pub invoke: Invoke,
     pub stopped: [u8; Lamps::MEMBERS],
@@ -45,7 +47,7 @@ impl Notice {
     {
         Notice {
             asks: Asks::NoOne,
-            call: [0; 16],
+            call: [0; Table::CALL_OCTETS],
             place: Place(0),
             invoke: Invoke(0),
             stopped: [0; Lamps::MEMBERS],
@@ -105,7 +107,7 @@ fn leave(l: Lamps) -> Lit
 }
 
 // A request that is pending to each member.
-fn new_lamp(n: Indication, call: [u8; 16], invoke: Invoke) -> Lamp
+fn new_lamp(n: Indication, call: Call, invoke: Invoke) -> Lamp
     ensures { λ r. ⌜ r ≡ newLamp n call invoke ⌝ }
 {
     Lamp {

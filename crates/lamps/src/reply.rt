@@ -5,6 +5,7 @@ use crate::members::Indication;
 use crate::members::Lamp;
 use crate::members::Lamps;
 use crate::members::is_one_to;
+use table::Call;
 use table::Found;
 use table::Invoke;
 use table::Place;
@@ -16,7 +17,7 @@ ghost use Rattle.table.specs.Places.{placeCount};
 ghost use Rattle.lamps.specs.Reply.{sameRequest, isPending, findPending, refusedReply, replied, settledAt, settledOf};
 
 pub struct Reply {
-    pub call: [u8; 16],
+    pub call: Call,
     pub member: u8,
     pub invoke: Invoke,
     pub indication: Indication,

@@ -2,6 +2,7 @@
 
 use image::CONNECTION_OFFSET;
 use image::COUNT_OFFSET;
+use table::Call;
 use table::Connection;
 use table::Invoke;
 use table::Record;
@@ -33,7 +34,7 @@ pub(crate) fn read_pair(image: &[u8], at: usize) -> u16
     join(image[at], image[at + 1])
 }
 
-fn read_call(image: &[u8], at: usize) -> [u8; Table::CALL_OCTETS]
+fn read_call(image: &[u8], at: usize) -> Call
     requires { ⌜ at + callOctets ≤ length (now image) ⌝ }
     ensures { λ r. ⌜ r ≡ take callOctets (drop at (now (image .entry))) ⌝ }
 {
@@ -62,7 +63,7 @@ pub(crate) fn read_record(image: &[u8], at: usize) -> Record
     }
 }
 
-fn put_call(out: &mut [u8], at: usize, call: [u8; Table::CALL_OCTETS])
+fn put_call(out: &mut [u8], at: usize, call: Call)
     requires { ⌜ at + callOctets ≤ length (now out) ⌝ }
     ensures { λ _. ⌜ now (out .exit) ≡ sets (now (out .entry)) at call ⌝ }
 {

@@ -3,6 +3,7 @@
 use crate::words;
 use image::PLACE_OCTETS;
 use image::RECORD_OCTETS;
+use table::Call;
 use table::Found;
 use table::Side;
 use table::State;
@@ -44,7 +45,7 @@ fn call_among(image: &[u8], call: &[u8]) -> Found
 }
 
 // The index of the place that holds a call.
-pub(crate) fn find_call(image: &[u8], call: [u8; Table::CALL_OCTETS]) -> Found
+pub(crate) fn find_call(image: &[u8], call: Call) -> Found
     requires { ⌜ length (now image) ≡ imageOctets ⌝ }
     ensures { λ r. ⌜ r ≡ findCall (tableFrom (now (image .entry))) call ⌝ }
 {

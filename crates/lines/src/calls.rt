@@ -1,5 +1,7 @@
 // Calls as 32 lowercase hexadecimal digits.
 
+use table::Call;
+use table::Table;
 ghost use mathlib.Core.Path.{_≡_};
 ghost use mathlib.Core.List.{_++_, _∷_, []};
 ghost use Prim.Native.Nat.{_+_, _/_, _%_, _<_};
@@ -9,7 +11,7 @@ ghost use Rattle.lines.specs.Calls.{nibbleOf, badCall, callOf, digitOf, 
 
 pub struct ReadCall {
     pub good: bool,
-    pub call: [u8; 16],
+    pub call: Call,
 }
 
 // The value of a lowercase hexadecimal digit, 16 for an octet that is none.
@@ -37,7 +39,7 @@ fn bad_call() -> ReadCall
 {
     ReadCall {
         good: false,
-        call: [0u8; 16],
+        call: [0u8; Table::CALL_OCTETS],
     }
 }
 
@@ -63,7 +65,7 @@ pub fn read_call(part: &[u8]) -> ReadCall
     if 15 < most {
         return bad_call();
     }
-    let mut a = [0u8; 16];
+    let mut a = [0u8; Table::CALL_OCTETS];
     let mut i: usize = 0;
     while i < 16 {
         a[i] = values[i * 2] * 16 + values[i * 2 + 1];
@@ -96,7 +98,7 @@ fn low_digit(b: u8) -> u8
 }
 
 // Writes a call and a tab from an index of the buffer on, and gives the index after it.
-pub(crate) fn put_call_tab(out: &mut [u8], at: usize, call: [u8; 16]) -> usize
+pub(crate) fn put_call_tab(out: &mut [u8], at: usize, call: Call) -> usize
     requires { ⌜ at + 32 < length (now out) ⌝ }
     ensures { λ r. ⌜ (r ≡ at + 33) × (now (out .exit) ≡ sets (now (out .entry)) at (hexOf call ++ (9 ∷ []))) ⌝ }
 {

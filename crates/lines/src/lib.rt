@@ -13,6 +13,7 @@ use numbers::Number;
 use table::Connection;
 use table::Invoke;
 use table::Place;
+use table::Table;
 ghost use mathlib.Core.Path.{_≡_};
 ghost use mathlib.Core.Bool.{cond};
 ghost use mathlib.Core.List.{_++_, _∷_, []};
@@ -80,7 +81,7 @@ fn fail(fault: Fault) -> Reading
         fault,
         event: Event {
             kind: 0,
-            call: [0; 16],
+            call: [0; Table::CALL_OCTETS],
             place: Place(0),
             choice: 0,
             connection: Connection(0),

@@ -4,6 +4,7 @@
 
 use events::Event;
 use libc::STDOUT_FILENO;
+use table::Call;
 use table::Connection;
 use table::Invoke;
 use table::Place;
@@ -14,7 +15,7 @@ use table::Table;
 ghost use Prim.Native.Nat.{_<_};
 ghost use Rattle.table.specs.Places.{placeCount};
 
-const CALL: [u8; 16] = [1; 16];
+const CALL: Call = [1; Table::CALL_OCTETS];
 
 const PICKER: u16 = 900;
 

@@ -14,6 +14,9 @@ ghost use Rattle.table.specs.Places.{stateNumber, sameState, isFree, sta
 // The number of a place: 1 to 96. Others are numbers of no place.
 pub struct Place(pub u16);
 
+// The CallIdentifier, any value.
+pub type Call = [u8; Table::CALL_OCTETS];
+
 // The picker's connection.
 pub struct Connection(pub u16);
 
@@ -49,7 +52,7 @@ pub enum Found {
 
 pub struct Record {
     pub state: State,
-    pub call: [u8; Table::CALL_OCTETS],
+    pub call: Call,
     pub connection: Connection,
     pub count: Invoke,
 }
