@@ -1,12 +1,12 @@
 -- Lists of numbers as loops and writers see them: one turn over a slice, a part of a slice that runs to its end, and runs of stores (`sets`) at
 -- an index that moves on. A run is joined to the next one by `sets-append`.
-use mathlib.Core.Path.{_≡_, sym, ap, ap₂, _∙_}
+use mathlib.Core.Path.{_≡_, refl, sym, ap, ap₂, _∙_}
 use mathlib.Core.List.{List, [], _∷_, _++_, map, append-assoc, append-nil}
-use Prim.Native.Nat.{ℕ, suc, _+_, _-_, _≤_, _<_}
+use Prim.Native.Nat.{ℕ, zero, suc, _+_, _-_, _≤_, _<_}
 use native.Mathlib.Nat.{add-zero}
 use native.Mathlib.Numerals.{add-one}
 use native.Mathlib.Omega.{arith}
-use lib.ListN.{length, take, drop, getD, set, length-append, length-drop, length-map, drop-of-length-le}
+use lib.ListN.{length, take, drop, getD, set, replicate, length-append, length-drop, length-map, drop-of-length-le}
 use lib.Seq.{sets, sets-eq, length-sets, drop-cons, take-all, take-suc, take-suc-set, length-take-le, take-at, drop-at, drop-append-add, getD-drop}
 
 -- what is left at i, as its first octet and what is left at i + 1
@@ -84,3 +84,19 @@ sets-over p q u f i e n =
 -- d is l with a run written from i on
 pub sets-length : (l d f : List ℕ) (i : ℕ) → d ≡ sets l i f → length d ≡ length l
 sets-length l d f i h = ap length h ∙ length-sets l i f
+
+-- ---- a list of zeros
+
+abbrev pub zeros : ℕ → List ℕ
+zeros n = replicate n 0
+
+pub zeros-get : (n j : ℕ) → getD (zeros n) j 0 ≡ 0
+zeros-get zero j = refl
+zeros-get (suc n) zero = refl
+zeros-get (suc n) (suc j) = zeros-get n j
+
+-- past an index from which on there are only zeros
+pub zeros-after : (n k : ℕ) (l : List ℕ) → drop n l ≡ zeros k → (j : ℕ) → n ≤ j → getD l j 0 ≡ 0
+zeros-after n k l e j h =
+    let there : n + (j - n) ≡ j = omega arith in
+    ap (λ (i : ℕ). getD l i 0) (sym there) ∙ sym (getD-drop n l (j - n) 0) ∙ ap (λ (r : List ℕ). getD r (j - n) 0) e ∙ zeros-get k (j - n)

@@ -10,11 +10,12 @@ use native.Mathlib.Omega.{arith}
 use lib.Dec.{eqb, ltb}
 use lib.ListN.{length, take, set, length-set, length-append}
 use lib.Seq.{take-all, length-take-le, take-append-le, take-suc-set}
-use borrow.Author.Tests.{lt-ltb, ltb-true, ltb-false, ne-eqb}
+use borrow.Author.Tests.{ltb-true, ltb-false, ne-eqb}
 use Rattle.laws.proofs.Bools.{less-or}
 use Rattle.table.specs.declared.Table.{Table}
 use Rattle.table.specs.Places.{emptyTable}
-use Rattle.lines.specs.EventLine.{reading, readLine}
+use Rattle.lines.specs.EventLine.{readLine}
+use Rattle.lines.proofs.Faults.{long-line}
 use Rattle.lent.specs.LineStep.{stepRead, lineStep}
 use Rattle.lines.specs.AnswerLine.{answerLine}
 use Rattle.image.specs.Image.{imageOf}
@@ -48,13 +49,12 @@ pieces-whole s (p ∷ ps) =
 -- ---- a line is read by its first 63 octets
 
 read-by-63 : (line : List ℕ) → readLine (take 63 line) ≡ readLine line
-unfolding readLine reading
 read-by-63 line =
     ⊎-elim
     (λ short. rw (take-all 63 line (omega arith)))
     (λ long.
     let cut : length (take 63 line) ≡ 63 = length-take-le 63 line long in
-    rw (cut, lt-ltb 62 (length line) (omega arith)))
+    long-line (take 63 line) (omega arith) ∙ sym (long-line line (omega arith)))
     (less-or (length line) 63)
 
 step-by-63 : (t : Table) (line : List ℕ) → lineStep t (take 63 line) ≡ lineStep t line

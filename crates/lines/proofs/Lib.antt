@@ -1,14 +1,6 @@
-pub mod Passed
-pub mod FieldLaws
-pub mod NumberLaws
-pub mod CallLaws
-pub mod Joined
-pub mod Decimal
-pub mod Hexadecimal
 pub mod Lengths
-pub mod Written
-pub mod Rests
 pub mod Faults
+pub mod Feed
 pub mod Round
 pub mod Ranged
 pub mod BadField

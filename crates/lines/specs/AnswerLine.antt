@@ -1,23 +1,70 @@
 -- The answer line (document 01, "Answer line: number, call, place, state after, message, connection, invoke, error, started, stopped.";
--- document 02, Q-1: "The answer line gets four fields at its end: message, connection, invoke, error of the second, zeros if there is none."),
--- with its line feed.
+-- document 02, Q-1: "The answer line gets four fields at its end: message, connection, invoke, error of the second, zeros if there is none."):
+-- its description, an answer in its fields, the answer that a line says, and how an answer is written.
 use mathlib.Core.List.{List, [], _∷_, _++_}
 use Prim.Native.Nat.{ℕ}
+use lib.ListN.{getD}
 use Rattle.events.specs.declared.Answer.{Answer}
-use Rattle.events.specs.declared.message.Sent.{Sent}
-use Rattle.lines.specs.Numbers.{decimal}
-use Rattle.lines.specs.Calls.{hexOf}
-use Rattle.lines.specs.EventLine.{joined}
+use Rattle.fields.specs.declared.Fields.{Fields}
+use Rattle.fields.specs.Line.{callField, readFields, isNone, lineOf}
+use Rattle.lines.specs.declared.ReadAnswer.{ReadAnswer}
 
--- the four fields of a message
-unfoldable pub sentLine : Sent → List ℕ
-sentLine x =
-    joined (decimal (x .message)) (joined (decimal (x .connection .0)) (joined (decimal (x .invoke .0)) (decimal (x .error))))
+-- ---- the description
 
+-- The ranges are those of document 02, Q-11: "connections and invokes to 65,535, other numbers to 255".
+abbrev pub answerFields : List ℕ
+answerFields =
+    255 ∷ callField ∷ 255 ∷ 255
+    ∷ 255 ∷ 65535 ∷ 65535 ∷ 255
+    ∷ 255 ∷ 255
+    ∷ 255 ∷ 65535 ∷ 65535 ∷ 255 ∷ []
+
+-- No line of fourteen such fields is longer (`answer-text-short`), so that this bound refuses none.
+abbrev pub longestAnswer : ℕ
+longestAnswer = 92
+
+-- ---- an answer in its fields
+
+abbrev pub answerIn : Fields → Answer
+answerIn f =
+    let v : ℕ → ℕ = λ i. getD (f .values) i 0 in
+    record {
+      number = v 0;
+      call = f .call;
+      place = record { 0 = v 2 };
+      state = v 3;
+      first = record { message = v 4; connection = record { 0 = v 5 }; invoke = record { 0 = v 6 }; error = v 7 };
+      started = v 8;
+      stopped = v 9;
+      second = record { message = v 10; connection = record { 0 = v 11 }; invoke = record { 0 = v 12 }; error = v 13 };
+    }
+
+-- and its values, each at its field's index
+abbrev pub answerValues : Answer → List ℕ
+answerValues a =
+    a .number ∷ 0 ∷ a .place .0 ∷ a .state
+    ∷ a .first .message ∷ a .first .connection .0 ∷ a .first .invoke .0 ∷ a .first .error
+    ∷ a .started ∷ a .stopped
+    ∷ a .second .message ∷ a .second .connection .0 ∷ a .second .invoke .0 ∷ a .second .error ∷ []
+
+-- ---- the answer that a line says, the line coming without its line feed
+
+abbrev pub readingAnswer : List ℕ → Fields
+readingAnswer s = readFields longestAnswer answerFields s
+
+-- a line that is not the fourteen fields has the answer of all zeros
+unfoldable pub readAnswer : List ℕ → ReadAnswer
+readAnswer s = record { good = isNone (readingAnswer s .fault); answer = answerIn (readingAnswer s) }
+
+-- ---- how an answer is written
+
+-- the fourteen fields
+abbrev pub answerText : Answer → List ℕ
+answerText a = lineOf answerFields (answerValues a) (a .call)
+
+-- and the line feed
 unfoldable pub answerLine : Answer → List ℕ
-answerLine a =
-    joined (decimal (a .number)) (joined (hexOf (a .call)) (joined (decimal (a .place .0)) (joined (decimal (a .state))
-    (joined (sentLine (a .first)) (joined (decimal (a .started)) (joined (decimal (a .stopped)) (sentLine (a .second) ++ (10 ∷ []))))))))
+answerLine a = answerText a ++ (10 ∷ [])
 
 -- the octets that an answer buffer must have, whatever the answer (refusal 26; Q-1: "26 now counts from 77 octets")
 abbrev pub answerRoom : ℕ

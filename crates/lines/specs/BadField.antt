@@ -1,21 +1,16 @@
--- How the first bad field of a line stands to its reading (document 02, Q-3). Both are taken from one walk through the line (`reading`); this
--- says what the field that is named has to do with the fields as they stand in the line, and with the refusal.
+-- How the first bad field of a line stands to its reading (document 02, Q-3). Both are taken from what one walk through the line gives
+-- (`reading`); this says what the field that is named has to do with the fields as they stand in the line, and with the refusal.
 use mathlib.Core.Path.{_≡_}
-use mathlib.Core.Bool.{Bool, true, false, cond, _||_}
+use mathlib.Core.Bool.{Bool, true, false, _||_}
 use mathlib.Core.List.{List}
-use Prim.Native.Nat.{ℕ, _≤_, _<_}
+use Prim.Native.Nat.{ℕ, _-_, _≤_, _<_}
 use lib.Dec.{eqb, ltb}
-use Rattle.lines.specs.declared.numbers.Number.{Number}
-use Rattle.lines.specs.declared.numbers.Number.the-variants.{Is, Bad}
-use Rattle.lines.specs.EventLine.{numberIn, callIn, readLine, badField}
+use Rattle.fields.specs.FirstBad.{goodAt}
+use Rattle.lines.specs.EventLine.{eventFields, readLine, badField}
 
-abbrev pub isNumber : Number → Bool
-isNumber (Is v) = true
-isNumber Bad = false
-
--- is field i of the line good: the second as a call, any other as a number
+-- is field i of the line, counted from 1, good: the second as a call, any other as a number
 abbrev pub isGood : ℕ → List ℕ → Bool
-isGood i s = cond (eqb i 2) (callIn i s .good) (isNumber (numberIn i s))
+isGood i s = goodAt eventFields s (i - 1)
 
 -- `bad-field-stands`
 pub record BadFieldStands (s : List ℕ) : Type 0 where

@@ -1,7 +1,5 @@
-pub mod Fields
-pub mod Numbers
-pub mod Calls
 pub mod EventLine
 pub mod BadField
 pub mod AnswerLine
+pub mod Round
 pub mod Offered

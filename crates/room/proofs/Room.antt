@@ -24,10 +24,11 @@ use Rattle.step.specs.Step.{stepOf}
 use Rattle.step.specs.Promises.{Full, SmallSent, Small}
 use Rattle.step.proofs.Stepped.{Stepped, kept, begun, ended, went-on, stepped}
 use Rattle.step.proofs.Small.{saying-small, answers-small}
-use Rattle.lines.specs.Numbers.{decimal}
-use Rattle.lines.specs.AnswerLine.{sentLine, answerLine}
-use Rattle.lines.proofs.Decimal.{length-digit, length-two, length-five}
-use Rattle.lines.proofs.Lengths.{length-sent, length-answer}
+use Rattle.fields.specs.Numbers.{decimal}
+use Rattle.fields.specs.Line.{text, lineFrom}
+use Rattle.fields.proofs.Decimal.{length-digit, length-two, length-five}
+use Rattle.lines.specs.AnswerLine.{answerLine}
+use Rattle.lines.proofs.Lengths.{sentSize, length-answer}
 use Rattle.room.specs.Room.{RoomSuffices, Bare, Light, AnswersLight, longest, NoneLonger, LongestGiven}
 use Rattle.events.proofs.Refusals.{tells}
 use Rattle.room.proofs.Messages.{nothing-bare, Within, nothing-sent, greeting-sent, refusal-sent, turns}
@@ -92,18 +93,17 @@ width-invoke : (n : Invoke) → n ≡ noInvoke → width (n .0) ≡ 1
 width-invoke n q = length-digit (n .0) (omega (arith, ap (λ (x : Invoke). x .0) q))
 
 module _ (x : Sent) (small : SmallSent x) where
-  bare-long : Bare x → length (sentLine x) ≡ 7
+  bare-long : Bare x → sentSize x ≡ 7
   bare-long b =
       omega (
         arith,
-        length-sent x,
         length-digit (x .message) (omega (arith, small .message)),
         length-digit (x .error) (omega (arith, small .error)),
         width-connection (x .connection) (b .connection),
         width-invoke (x .invoke) (b .invoke),
       )
 
-  one-long : Within (λ n. n ≤ 65535) x → length (sentLine x) ≤ 11
+  one-long : Within (λ n. n ≤ 65535) x → sentSize x ≤ 11
   one-long w =
       let digits : width (x .connection .0) + width (x .invoke .0) ≤ 6 =
       ⊎-elim
@@ -112,7 +112,6 @@ module _ (x : Sent) (small : SmallSent x) where
       (w .one-unset) in
       omega (
         arith,
-        length-sent x,
         length-digit (x .message) (omega (arith, small .message)),
         length-digit (x .error) (omega (arith, small .error)),
         digits,
@@ -130,7 +129,7 @@ module _ (a : Answer) (small : Small a) (light : Light a) (typed : Typed a) wher
       ))
       (light .number-or-place)
 
-  messages : length (sentLine (a .first)) + length (sentLine (a .second)) ≤ 18
+  messages : sentSize (a .first) + sentSize (a .second) ≤ 18
   messages =
       ⊎-elim
       (λ b. omega (arith, bare-long (a .first) (small .first) b, one-long (a .second) (small .second) (typed .second)))
@@ -171,7 +170,7 @@ pub room-suffices : RoomSuffices
 room-suffices t e table event = omega (arith, none-longer t e table event)
 
 pub longest-given : LongestGiven
-unfolding answerLine sentLine decimal below earliest closedUp
+unfolding answerLine lineFrom text decimal below earliest closedUp
 longest-given = refl
 
 -- nor is the line of a number alone any longer

@@ -22,6 +22,7 @@ use Rattle.table.specs.Marks.{ofSide, slotOf, isFresh, withMark, Marked,
 use Rattle.table.proofs.Laws.{side-below}
 use Rattle.table.proofs.RankLaws.{calls-few, alike, differ}
 use Rattle.laws.proofs.Lists.{below-none, below-make, below-not}
+use Rattle.laws.proofs.Runs.{zeros-get}
 use Rattle.table.proofs.Facts.{rank-low}
 
 -- a slot is of one rank of one side
@@ -151,13 +152,8 @@ module _ (t : Table) (size : length (t .places) ≡ placeCount) (n : ℕ) (marks
 
 -- ---- all places
 
-zeros : (n s : ℕ) → getD {A = ℕ} (replicate n 0) s 0 ≡ 0
-zeros zero s = refl
-zeros (suc n) zero = refl
-zeros (suc n) (suc s) = zeros n s
-
 pub entering-none : (t : Table) (marks : List ℕ) → marks ≡ replicate 512 0 → Entering t 0 marks
 entering-none t marks e = (
   below-none (rankSound t),
-  no-marks t marks (ap length e ∙ length-replicate {A = ℕ} 512 0) (λ s. ap (λ (l : List ℕ). getD l s 0) e ∙ zeros 512 s),
+  no-marks t marks (ap length e ∙ length-replicate {A = ℕ} 512 0) (λ s. ap (λ (l : List ℕ). getD l s 0) e ∙ zeros-get 512 s),
 )

@@ -1,8 +1,9 @@
 -- By the contract of `reading_of`, through the fault.
 use mathlib.Core.Path.{ap, _∙_}
 use borrow.Author.Needs.{needs}
-use Rattle.lines.specs.declared.Reading.{Reading}
-use Rattle.lines.specs.EventLine.{faultField, badField}
+use Rattle.fields.specs.declared.Fields.{Fields}
+use Rattle.fields.specs.Line.{faultField}
+use Rattle.lines.specs.EventLine.{badField}
 use Rattle.lines.proofs.bad_field.Statement.{statement}
 use Rattle.lines.proofs.bad_field.Tie as tie
 
@@ -14,7 +15,7 @@ field-requires c κs = search needs
 
 returns : tie.Need-returns
 unfolding badField
-returns c = c .field .ensures ∙ ap (λ (r : Reading). faultField (r .fault)) (c .before .reading-of .ensures)
+returns c = c .field .ensures ∙ ap (λ (r : Fields). faultField (r .fault)) (c .before .reading-of .ensures)
 
 pub bad-field-spec : {M : Type 1} → statement M
 bad-field-spec = tie.close (tie.spec reading-of-requires field-requires returns)

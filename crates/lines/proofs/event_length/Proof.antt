@@ -1,84 +1,36 @@
--- The sum of the digits is the length of the line. No part of it runs over, since no number has more than twenty digits.
-use mathlib.Core.Path.{_≡_}
-use Prim.Native.Nat.{_+_, _≤_}
-use native.Mathlib.Omega.{arith}
+-- The length is that of the line with any call.
+use mathlib.Core.Path.{_≡_, sym, ap, _∙_}
+use mathlib.Core.List.{List}
+use Prim.Native.Nat.{ℕ}
 use lib.ListN.{length}
-use Rattle.events.specs.declared.Event.{Event}
-use Rattle.lines.specs.Numbers.{decimal}
-use Rattle.lines.proofs.Decimal.{decimal-twenty}
-use Rattle.lines.proofs.Lengths.{length-event}
+use Rattle.table.specs.Places.{noCall}
+use Rattle.fields.specs.Line.{lineOf}
+use Rattle.lines.specs.EventLine.{eventFields}
+use Rattle.lines.proofs.Lengths.{event-any-call}
 use borrow.Author.Needs.{needs}
 use Rattle.lines.proofs.event_length.Statement.{statement}
 use Rattle.lines.proofs.event_length.Tie as tie
 
--- the event, from the place after the last call
-abbrev event : tie.After-digits-together2 → Event
-event c = c .before .before .before .before .before .before .before .before .args .e
-
--- the parts of the sum that the code makes are parts of this one
-few : (e : Event)
-    → (length (decimal (e .kind)) + length (decimal (e .place .0)) + length (decimal (e .choice)))
-    + (length (decimal (e .connection .0)) + length (decimal (e .invoke .0)) + length (decimal (e .timer)))
-    ≤ 120
-few e =
-    omega (
-      arith,
-      decimal-twenty (e .kind),
-      decimal-twenty (e .place .0),
-      decimal-twenty (e .choice),
-      decimal-twenty (e .connection .0),
-      decimal-twenty (e .invoke .0),
-      decimal-twenty (e .timer),
-    )
-
 long : (c : tie.Start) → length (c .args .e .call) ≡ 16
 long c = search needs
 
-cast-digits-together : tie.Need-cast-digits-together
-cast-digits-together c = search needs
+slice-aggregate-fields-length : tie.Need-slice-aggregate-fields-length
+slice-aggregate-fields-length c = search needs
 
-cast-digits-together-2 : tie.Need-cast-digits-together-2
-cast-digits-together-2 c = search needs
+event-values-requires : tie.Need-event-values-requires
+event-values-requires c κs = search needs
 
-cast-digits-together-3 : tie.Need-cast-digits-together-3
-cast-digits-together-3 c = search needs
-
-digits-together-requires : tie.Need-digits-together-requires
-digits-together-requires c κs = search needs
-
-cast-digits-together-4 : tie.Need-cast-digits-together-4
-cast-digits-together-4 c = search needs
-
-cast-digits-together-5 : tie.Need-cast-digits-together-5
-cast-digits-together-5 c = search needs
-
-cast-digits-together-6 : tie.Need-cast-digits-together-6
-cast-digits-together-6 c = search needs
-
-digits-together-requires-2 : tie.Need-digits-together-requires-2
-digits-together-requires-2 c κs = search needs
-
-add-result : tie.Need-add-result
-add-result c = omega (arith, few (event c))
-
-add-result-2 : tie.Need-add-result-2
-add-result-2 c = omega (arith, few (event c))
+fields-length-requires : tie.Need-fields-length-requires
+fields-length-requires c κs = search needs
 
 returns : tie.Need-returns
-returns c = omega (arith, length-event (event c) (long (c .before .before .before .before .before .before .before .before)))
+returns c =
+    let e = c .before .before .before .args .e in
+    c .fields-length .ensures
+    ∙ ap (λ (v : List ℕ). length (lineOf eventFields v noCall)) (c .before .event-values .ensures)
+    ∙ sym (event-any-call e (long (c .before .before .before)))
 
 pub event-length-spec : {M : Type 1} → statement M
 event-length-spec =
     tie.close
-    (tie.spec
-    cast-digits-together
-    cast-digits-together-2
-    cast-digits-together-3
-    digits-together-requires
-    cast-digits-together-4
-    cast-digits-together-5
-    cast-digits-together-6
-    digits-together-requires-2
-    add-result
-    add-result-2
-    returns)
+    (tie.spec slice-aggregate-fields-length event-values-requires fields-length-requires returns)

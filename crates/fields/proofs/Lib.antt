@@ -1,0 +1,13 @@
+pub mod Passed
+pub mod PartLaws
+pub mod NumberLaws
+pub mod CallLaws
+pub mod Joined
+pub mod Decimal
+pub mod Hexadecimal
+pub mod Walk
+pub mod Texts
+pub mod Round
+pub mod Ranged
+pub mod FirstBad
+pub mod Unique
