@@ -27,5 +27,5 @@ for answers in tests/vectors/*.answers; do
 done
 [ "$lines" -gt 0 ] || { echo "echo: FAILED: there is no line to give back"; bad=1; }
 [ "$refused" -gt 0 ] || { echo "echo: FAILED: no vector refuses a line"; bad=1; }
-echo "echo: $lines lines, of which $refused are refused, held to what $program prints"
+echo "echo: $program held to $lines lines, of which $refused are refused"
 exit "$bad"

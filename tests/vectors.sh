@@ -4,14 +4,14 @@
 # Outside vectors: NAME.events is what the program reads, NAME.answers what it must print, octet for octet. An independent model made them, and
 # they are copied as they are (docs/DECISIONS.md, D-15).
 #
-# Where the originals lie beside the project, in ../shared/vectors, each copy is held to its original too. There the folder base/ has document
-# 01's files, and Q-N/ those that request Q-N brought or changed: the original is in the newest folder of a request that has landed.
+# Where PARK_VECTORS names the folder of the originals, each copy is held to its original too. There the folder base/ has document 01's files, and
+# Q-N/ those that request Q-N brought or changed: the original is in the newest folder of a request that has landed.
 set -euo pipefail
 shopt -s nullglob
 cd "$(dirname "$0")/.."
 program=${1:-target/bin/parkline}
 here=tests/vectors
-originals=../shared/vectors
+originals=${PARK_VECTORS:-}
 landed=(Q-4 Q-3 Q-1 base) # newest first
 
 bad=0
@@ -45,17 +45,17 @@ for name in $(for file in "$here"/*; do basename "${file%.*}"; done | sort -u); 
   count=$(wc -l < "$answers")
   echo "vectors $name: $count lines"
   files=$((files + 1)) lines=$((lines + count))
-  if [ -d "$originals" ]; then
+  if [ -n "$originals" ]; then
     hold_to_original "$events"
     hold_to_original "$answers"
   fi
 done
 [ "$files" -gt 0 ] || complain "there are none in $here"
 [ "$lines" -gt 0 ] || complain "there is no line to compare"
-if [ -d "$originals" ]; then
+if [ -n "$originals" ]; then
   echo "vectors: $held files held to their originals in $originals"
 else
-  echo "vectors: not held to their originals, as $originals is not there"
+  echo "vectors: not held to their originals, as PARK_VECTORS names no folder"
 fi
 echo "vectors: $files files, $lines lines compared with what $program prints"
 exit "$bad"

@@ -1,5 +1,5 @@
 -- The C entry (document 01, "The signalling stack is written in C and passes an image, a line and an answer buffer."): the line at the
--- image, its answer written as a line. Refusals in order: 26, 25, 21 to 24, 1 to 10.
+-- image, its answer written as a line. Refusals in order: 26, 25, 21 to 24, 1 to 12.
 use mathlib.Core.Path.{_≡_}
 use mathlib.Core.Bool.{Bool, cond}
 use mathlib.Core.List.{List}

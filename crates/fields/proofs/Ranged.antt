@@ -1,48 +1,62 @@
--- What comes of reading any line, refused ones too: each value is at most the greatest of its field, and the call has 16 octets.
-use mathlib.Core.Path.{_≡_, refl, sym, ap, _∙_}
+-- What comes of reading any line, refused ones too: each value is at most the greatest of its field, and the call is 16 octets.
+use mathlib.Core.Path.{_≡_, refl, ap, _∙_, subst}
 use mathlib.Core.Bool.{Bool, true, false, cond}
 use mathlib.Core.List.{List, [], _∷_, _++_}
-use Prim.Native.Nat.{ℕ, zero, suc, _+_, _*_, _≤_}
+use Prim.Native.Nat.{ℕ, zero, suc, _+_, _*_, _≤_, _<_}
 use native.Mathlib.Omega.{arith}
 use lib.Dec.{eqb, ltb}
 use lib.ListN.{length, getD, set, length-append}
-use borrow.Author.Tests.{eqb-true}
+use borrow.Author.Tests.{eqb-true, ltb-false}
 use Rattle.fields.specs.declared.calls.ReadCall.{ReadCall}
 use Rattle.fields.specs.declared.Fault.{Fault}
 use Rattle.fields.specs.declared.Fault.the-variants.{TooLong, WrongCount, BadField}
 use Rattle.fields.specs.declared.Fields.{Fields}
 use Rattle.fields.specs.Parts.{before}
 use Rattle.laws.proofs.Runs.{zeros-get}
-use Rattle.table.specs.Places.{noCall}
+use Rattle.table.specs.Places.{callOctets, noCall}
 use Rattle.fields.specs.Calls.{nibbleOf, badCall, callFrom, callOf}
 use Rattle.fields.specs.Line.{callField, mostFields, noValues, fails, walk, readFields}
+use Rattle.fields.specs.Round.{CallInRange}
 use Rattle.fields.proofs.NumberLaws.{number-most}
 use Rattle.fields.proofs.Walk.{by-fields, by-tests}
 
--- two digits for each octet that is missing
-from-long : (acc s : List ℕ) (n : ℕ) → length s ≡ n * 2 → length acc + n ≡ 16 → length (callFrom acc s .call) ≡ 16
-from-long acc [] n h e = omega arith
-from-long acc (x ∷ []) n h e = refl
-from-long acc (x ∷ y ∷ s) zero h e = absurd (omega arith)
-from-long acc (x ∷ y ∷ s) (suc n) h e =
-    let octet : List ℕ = (nibbleOf x * 16 + nibbleOf y) ∷ [] in
-    by (ltb 15 (nibbleOf x)) (ltb 15 (nibbleOf y)) (callFrom (acc ++ octet) s) (from-long (acc ++ octet) s n (omega arith) (omega (arith, length-append acc octet)))
-  where
-    by : (a b : Bool) (r : ReadCall) → length (r .call) ≡ 16 → length (cond a badCall (cond b badCall r) .call) ≡ 16
-    by true b r l = refl
-    by false true r l = refl
-    by false false r l = l
+pub no-call : CallInRange noCall
+no-call = record { long = refl; octets = λ i. omega (arith, zeros-get callOctets i) }
 
-call-long : (s : List ℕ) → length (callOf s .call) ≡ 16
-call-long s = by (eqb (length s) 32) refl
+below-more : (l : List ℕ) (x : ℕ) → ((i : ℕ) → getD l i 0 < 256) → x < 256 → (i : ℕ) → getD (l ++ (x ∷ [])) i 0 < 256
+below-more [] x h b zero = b
+below-more [] x h b (suc i) = omega arith
+below-more (y ∷ l) x h b zero = h 0
+below-more (y ∷ l) x h b (suc i) = below-more l x (λ j. h (suc j)) b i
+
+-- two digits for each octet that is missing
+from-digits : (acc s : List ℕ) (n : ℕ) → length s ≡ n * 2 → length acc + n ≡ callOctets → ((i : ℕ) → getD acc i 0 < 256)
+    → CallInRange (callFrom acc s .call)
+from-digits acc [] n h e o = record { long = omega arith; octets = o }
+from-digits acc (x ∷ []) n h e o = no-call
+from-digits acc (x ∷ y ∷ s) zero h e o = absurd (omega arith)
+from-digits acc (x ∷ y ∷ s) (suc n) h e o =
+    let octet = nibbleOf x * 16 + nibbleOf y in
+    let long = length-append acc (octet ∷ []) in
+    by (ltb 15 (nibbleOf x)) (ltb 15 (nibbleOf y)) refl refl (λ b. from-digits (acc ++ (octet ∷ [])) s n (omega arith) (omega (arith, long)) (below-more acc octet o b))
   where
-    by : (b : Bool) → eqb (length s) 32 ≡ b → length (cond b (callFrom [] s) badCall .call) ≡ 16
-    by true q = from-long [] s 16 (eqb-true (length s) 32 q) refl
-    by false q = refl
+    by : (a b : Bool) → ltb 15 (nibbleOf x) ≡ a → ltb 15 (nibbleOf y) ≡ b
+        → (nibbleOf x * 16 + nibbleOf y < 256 → CallInRange (callFrom (acc ++ ((nibbleOf x * 16 + nibbleOf y) ∷ [])) s .call))
+        → CallInRange (cond a badCall (cond b badCall (callFrom (acc ++ ((nibbleOf x * 16 + nibbleOf y) ∷ [])) s)) .call)
+    by true b p q rest = no-call
+    by false true p q rest = no-call
+    by false false p q rest = rest (omega (arith, ltb-false 15 (nibbleOf x) p, ltb-false 15 (nibbleOf y) q))
+
+call-in-range : (s : List ℕ) → CallInRange (callOf s .call)
+call-in-range s = by (eqb (length s) 32) refl
+  where
+    by : (b : Bool) → eqb (length s) 32 ≡ b → CallInRange (cond b (callFrom [] s) badCall .call)
+    by true q = from-digits [] s 16 (eqb-true (length s) 32 q) refl (λ i. omega arith)
+    by false q = no-call
 
 pub record Ranged (most : List ℕ) (r : Fields) : Type 0 where
   pub value : (j : ℕ) → getD (r .values) j 0 ≤ getD most j 0
-  pub call : length (r .call) ≡ 16
+  pub call : CallInRange (r .call)
 
 none : (j b : ℕ) → getD noValues j 0 ≤ b
 none j b = omega (arith, zeros-get mostFields j)
@@ -56,7 +70,7 @@ set-within (x ∷ l) (suc i) v (suc j) b f h = set-within l i v j b (λ q. f (ap
 
 module _ (whole : List ℕ) where
   failed : (f : Fault) → Ranged whole (fails f)
-  failed f = record { value = λ j. none j (getD whole j 0); call = refl }
+  failed f = record { value = λ j. none j (getD whole j 0); call = no-call }
 
   -- the fields from index i on are those of the whole description
   abbrev Later : List ℕ → ℕ → Type 0
@@ -68,13 +82,13 @@ module _ (whole : List ℕ) where
       e : suc i + j ≡ i + suc j
       e = omega arith
 
-  walk-ranged : (most : List ℕ) (i : ℕ) (s acc c : List ℕ) → Later most i → ((j : ℕ) → getD acc j 0 ≤ getD whole j 0) → length c ≡ 16
+  walk-ranged : (most : List ℕ) (i : ℕ) (s acc c : List ℕ) → Later most i → ((j : ℕ) → getD acc j 0 ≤ getD whole j 0) → CallInRange c
       → Ranged whole (walk most i s acc c)
   walk-ranged =
-      by-fields (λ most i s acc c r. Later most i → ((j : ℕ) → getD acc j 0 ≤ getD whole j 0) → length c ≡ 16 → Ranged whole r)
+      by-fields (λ most i s acc c r. Later most i → ((j : ℕ) → getD acc j 0 ≤ getD whole j 0) → CallInRange c → Ranged whole r)
       (λ i s acc c at h l. record { value = h; call = l })
       (λ m most i s acc c b at h l. failed (BadField (suc i)))
-      (λ most i s acc c d r q rest at h l. rest (later callField most i at) h (ap (λ (x : ReadCall). length (x .call)) (sym q) ∙ call-long (before s)))
+      (λ most i s acc c d r q rest at h l. rest (later callField most i at) h (subst CallInRange (ap (λ (x : ReadCall). x .call) q) (call-in-range (before s))))
       (λ m most i s acc c v r q rest at h l.
       let here : suc m ≡ getD whole i 0 = at 0 ∙ ap (λ (n : ℕ). getD whole n 0) (omega arith) in
       let most-v = number-most (before s) (suc m) v q in
@@ -82,5 +96,5 @@ module _ (whole : List ℕ) where
 
 pub read-ranged : (longest : ℕ) (most s : List ℕ) → Ranged most (readFields longest most s)
 read-ranged longest most s =
-    by-tests (Ranged most) longest most s (failed most TooLong) (failed most WrongCount)
-    (λ t. walk-ranged most most 0 s noValues noCall (λ j. ap (λ (n : ℕ). getD most n 0) (omega arith)) (λ j. none j (getD most j 0)) refl)
+    by-tests (Ranged most) longest most s (λ long. failed most TooLong) (λ short other. failed most WrongCount)
+    (λ size. walk-ranged most most 0 s noValues noCall (λ j. ap (λ (n : ℕ). getD most n 0) (omega arith)) (λ j. none j (getD most j 0)) no-call)

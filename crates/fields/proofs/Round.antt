@@ -5,27 +5,27 @@ use mathlib.Core.Path.{_≡_, refl, sym, ap, ap₂, _∙_}
 use mathlib.Core.List.{List, [], _∷_}
 use mathlib.Core.Bool.{Bool, true, false, cond}
 use mathlib.Core.Logic.{⊎-elim}
-use Prim.Native.Nat.{ℕ, zero, suc, _+_, _-_, _≤_, _<_}
+use Prim.Native.Nat.{ℕ, zero, suc, _+_, _≤_, _<_}
 use native.Mathlib.Nat.{eq-or-lt-of-le}
 use native.Mathlib.Omega.{arith}
 use lib.Dec.{ltb, leb, eqb}
 use lib.ListN.{length, getD, set, length-set}
 use lib.Seq.{ext-getD, getD-set-same, getD-set-other}
 use borrow.Author.Tests.{ltb-true, ltb-false, leb-true}
-use Rattle.fields.specs.declared.Fault.{Fault}
-use Rattle.fields.specs.declared.Fault.the-variants.{NoFault, TooLong, WrongCount, BadField}
+use Rattle.fields.specs.declared.Fault.the-variants.{TooLong, WrongCount, BadField}
 use Rattle.fields.specs.declared.Fields.{Fields}
 use Rattle.fields.specs.Parts.{before, after, tabs}
 use Rattle.fields.specs.Numbers.{decimal}
+use Rattle.laws.proofs.Bools.{never}
 use Rattle.laws.proofs.Runs.{zeros-get}
 use Rattle.table.specs.Places.{noCall}
 use Rattle.fields.specs.Calls.{hexOf}
-use Rattle.fields.specs.Line.{callField, mostFields, noValues, says, fails, withNumber, withCall, walk, readFields, text, joined, lineFrom, lineOf}
-use Rattle.fields.specs.Round.{callsIn, isSmall, Within, ReadsBack, WritesBack}
+use Rattle.fields.specs.Line.{callField, mostFields, noValues, says, withNumber, withCall, walk, readFields, text, joined, lineFrom, lineOf}
+use Rattle.fields.specs.Round.{callFields, isSmall, Within, ReadsBack, WritesBack}
 use Rattle.fields.proofs.Joined.{join-before, join-after, join-tabs, last-before, last-after, cut-line, cut-tabs}
 use Rattle.fields.proofs.Decimal.{number-written, number-read, decimal-tabs}
 use Rattle.fields.proofs.Hexadecimal.{call-written, call-read, hex-tabs}
-use Rattle.fields.proofs.Walk.{is-number, by-fields, by-tests, line-walk}
+use Rattle.fields.proofs.Walk.{fails-not-says, is-number, by-fields, by-tests, line-walk}
 use Rattle.fields.proofs.Texts.{text-call, text-number, line-whole}
 
 -- the greatest values, one by one
@@ -39,7 +39,7 @@ all-small (m ∷ most) h = by (leb m 65535) refl h (all-small most)
   where
     by : (b : Bool) → leb m 65535 ≡ b → cond b (isSmall most) false ≡ true → (isSmall most ≡ true → Small most) → (m ≤ 65535) × Small most
     by true q h rest = (leb-true m 65535 q, rest h)
-    by false q h rest = let z : _≡_ {A = ℕ} 0 1 = cc in absurd (omega arith)
+    by false q h rest = never h
 
 -- ---- reading what was written
 
@@ -87,7 +87,7 @@ module _ (values call : List ℕ) where
     so-far : (j : ℕ) → j < i → getD acc j 0 ≡ getD values j 0
     zeros : (j : ℕ) → i ≤ j → getD acc j 0 ≡ 0
     no-more : (j : ℕ) → i + length most ≤ j → getD values j 0 ≡ 0
-    said : callsIn most ≡ 0 → c ≡ call
+    said : callFields most ≡ 0 → c ≡ call
 
   up-to-one : (i : ℕ) (acc : List ℕ) → ((j : ℕ) → j < i → getD acc j 0 ≡ getD values j 0) → getD acc i 0 ≡ getD values i 0
       → (j : ℕ) → j < suc i → getD acc j 0 ≡ getD values j 0
@@ -140,7 +140,7 @@ read-written longest (m ∷ most) values call d f short =
     let whole = line-whole (m ∷ most) values call (d .few) in
     ap (readFields longest (m ∷ most)) whole
     ∙ line-walk longest (m ∷ most) (lineFrom (m ∷ most) 0 values call) (omega (arith, ap length whole)) (d .few) (line-tabs values call m most 0 small (f .within))
-    ∙ read-from values call (f .long) (f .octets) (m ∷ most) 0 noValues noCall small (f .within) record {
+    ∙ read-from values call (f .in-range .long) (f .in-range .octets) (m ∷ most) 0 noValues noCall small (f .within) record {
       long = sym (f .size);
       room = omega (arith, d .few, f .size);
       so-far = λ j h. absurd (omega arith);
@@ -150,16 +150,6 @@ read-written longest (m ∷ most) values call d f short =
     }
 
 -- ---- writing what was read
-
--- a fault is no end without one
-abbrev faultOf : Fault → ℕ
-faultOf NoFault = 0
-faultOf TooLong = 1
-faultOf WrongCount = 1
-faultOf (BadField i) = 1
-
-failed : (f : Fault) (values call : List ℕ) → faultOf f ≡ 1 → fails f ≡ says values call → ⊥
-failed f values call h q = omega (arith, ap (λ (r : Fields). faultOf (r .fault)) q)
 
 module _ (values call : List ℕ) where
   -- a line is its first field and the line of the others
@@ -174,21 +164,21 @@ module _ (values call : List ℕ) where
       ap₂ joined e (r (omega (arith, cut-tabs s (length most) more))) ∙ cut-line s (length most) more
 
   -- A walk that ends well leaves the values before its first field as they are, and the call where no field is one; so the line that is written for
-  -- what it says is the one that it walked through.
-  record Walked (most : List ℕ) (i : ℕ) (s acc c : List ℕ) : Type 0 where
+  -- what it says is the one that it went through.
+  record WayBack (most : List ℕ) (i : ℕ) (s acc c : List ℕ) : Type 0 where
     so-far : (j : ℕ) → j < i → getD values j 0 ≡ getD acc j 0
-    said : callsIn most ≡ 0 → call ≡ c
-    line : Small most → callsIn most ≤ 1 → i + length most ≤ length acc → tabs s + 1 ≡ length most → lineFrom most i values call ≡ s
+    said : callFields most ≡ 0 → call ≡ c
+    line : Small most → callFields most ≤ 1 → i + length most ≤ length acc → tabs s + 1 ≡ length most → lineFrom most i values call ≡ s
 
-  walked : (most : List ℕ) (i : ℕ) (s acc c : List ℕ) → walk most i s acc c ≡ says values call → Walked most i s acc c
-  walked =
-      by-fields (λ most i s acc c r. r ≡ says values call → Walked most i s acc c)
+  way-back : (most : List ℕ) (i : ℕ) (s acc c : List ℕ) → walk most i s acc c ≡ says values call → WayBack most i s acc c
+  way-back =
+      by-fields (λ most i s acc c r. r ≡ says values call → WayBack most i s acc c)
       (λ i s acc c q. record {
         so-far = λ j h. ap (λ (r : Fields). getD (r .values) j 0) (sym q);
         said = λ z. ap (λ (r : Fields). r .call) (sym q);
         line = λ small one room t. absurd (omega arith);
       })
-      (λ m most i s acc c bad q. absurd (failed (BadField (suc i)) values call refl q))
+      (λ m most i s acc c bad q. absurd (fails-not-says (BadField (suc i)) values call refl q))
       (λ most i s acc c d r is rest q.
       let later = rest q in
       record {
@@ -214,8 +204,8 @@ module _ (values call : List ℕ) where
 pub written-read : WritesBack
 written-read longest most s values call d =
     by-tests (λ r. r ≡ says values call → lineOf most values call ≡ s) longest most s
-    (λ q. absurd (failed TooLong values call refl q))
-    (λ q. absurd (failed WrongCount values call refl q))
-    (λ t q.
+    (λ long q. absurd (fails-not-says TooLong values call refl q))
+    (λ short other q. absurd (fails-not-says WrongCount values call refl q))
+    (λ size q.
     line-whole most values call (d .few)
-    ∙ walked values call most 0 s noValues noCall q .line (all-small most (d .small)) (omega (arith, d .one-call)) (omega (arith, d .few)) t)
+    ∙ way-back values call most 0 s noValues noCall q .line (all-small most (d .small)) (omega (arith, d .one-call)) (omega (arith, d .few)) (size .as-many))

@@ -14,7 +14,7 @@ use Rattle.laws.proofs.Runs.{at-step, at-end, sets-on}
 use Rattle.fields.specs.Numbers.{decimal}
 use Rattle.table.specs.Places.{noCall}
 use Rattle.fields.specs.Calls.{hexOf}
-use Rattle.fields.specs.Line.{text, joined, lineFrom, lineOf}
+use Rattle.fields.specs.Line.{mostFields, text, joined, lineFrom, lineOf, Writes}
 use Rattle.fields.proofs.Decimal.{decimal-twenty}
 use Rattle.fields.proofs.Hexadecimal.{length-hex}
 
@@ -41,7 +41,7 @@ module _ (most values call : List ℕ) (i : ℕ) where
   abbrev next : List ℕ
   next = lineFrom (drop (i + 1) most) (i + 1) values call
 
-  pub line-step : i + 1 < length most → lineFrom (drop i most) i values call ≡ joined here next
+  line-step : i + 1 < length most → lineFrom (drop i most) i values call ≡ joined here next
   unfolding lineFrom
   line-step h = rw (at-step most i (omega arith), at-step most (i + 1) h, add-one i)
 
@@ -50,8 +50,8 @@ module _ (most values call : List ℕ) (i : ℕ) where
   unfolding lineFrom
   line-last last e h = rw (e, at-step most i (omega arith), at-end most (i + 1) (omega arith))
 
-  pub line-long : i + 1 < length most → length (lineFrom (drop i most) i values call) ≡ length here + (1 + length next)
-  line-long h = ap length (line-step h) ∙ (omega (arith, length-append here (9 ∷ next)))
+  pub length-step : i + 1 < length most → length (lineFrom (drop i most) i values call) ≡ length here + (1 + length next)
+  length-step h = ap length (line-step h) ∙ (omega (arith, length-append here (9 ∷ next)))
 
   -- the field is written at p, and a tab after it: what is to be written from there on is the next
   pub step-written : (l d : List ℕ) (p q : ℕ) → i + 1 < length most → q ≡ p + length here → d ≡ sets l p here
@@ -89,15 +89,15 @@ same-from (m ∷ n ∷ most) i values call h =
     )
 
 pub any-call : (most values call : List ℕ) → length call ≡ 16 → length (lineOf most values call) ≡ length (lineOf most values noCall)
-any-call most values call h = by (ltb 14 (length most))
+any-call most values call h = by (ltb mostFields (length most))
   where
     by : (b : Bool) → length (cond b [] (lineFrom most 0 values call)) ≡ length (cond b [] (lineFrom most 0 values noCall))
     by true = refl
     by false = same-from most 0 values call h
 
 -- a line by a description of fourteen fields at most
-pub line-whole : (most values call : List ℕ) → length most ≤ 14 → lineOf most values call ≡ lineFrom most 0 values call
-line-whole most values call h = rw (le-ltb 14 (length most) h)
+pub line-whole : (most values call : List ℕ) → length most ≤ mostFields → lineOf most values call ≡ lineFrom most 0 values call
+line-whole most values call h = rw (le-ltb mostFields (length most) h)
 
 -- a description of none, or of more
 pub line-none : (most values call : List ℕ) → length most ≡ 0 → lineOf most values call ≡ []
@@ -105,17 +105,17 @@ unfolding lineFrom
 line-none [] values call h = refl
 line-none (m ∷ most) values call h = absurd (omega arith)
 
-pub line-over : (most values call : List ℕ) → 14 < length most → lineOf most values call ≡ []
-line-over most values call h = rw (lt-ltb 14 (length most) h)
+pub line-over : (most values call : List ℕ) → mostFields < length most → lineOf most values call ≡ []
+line-over most values call h = rw (lt-ltb mostFields (length most) h)
 
 -- a line that has octets has a description that is neither
-pub line-some : (most values call : List ℕ) → (length (lineOf most values call) ≡ 0 → ⊥) → (0 < length most) × (length most ≤ 14)
+pub line-some : (most values call : List ℕ) → (length (lineOf most values call) ≡ 0 → ⊥) → (0 < length most) × (length most ≤ mostFields)
 line-some [] values call h = absurd (h (ap length (line-none [] values call refl)))
-line-some (m ∷ most) values call h = (omega arith, by (ltb 14 (suc (length most))) refl)
+line-some (m ∷ most) values call h = (omega arith, by (ltb mostFields (suc (length most))) refl)
   where
-    by : (b : Bool) → ltb 14 (suc (length most)) ≡ b → suc (length most) ≤ 14
-    by true q = absurd (h (ap length (line-over (m ∷ most) values call (ltb-true 14 (suc (length most)) q))))
-    by false q = ltb-false 14 (suc (length most)) q
+    by : (b : Bool) → ltb mostFields (suc (length most)) ≡ b → suc (length most) ≤ mostFields
+    by true q = absurd (h (ap length (line-over (m ∷ most) values call (ltb-true mostFields (suc (length most)) q))))
+    by false q = ltb-false mostFields (suc (length most)) q
 
 -- with a tab or an end, no field has more than 33 octets
 few-from : (most : List ℕ) (i : ℕ) (values : List ℕ) → length (lineFrom most i values noCall) ≤ 33 * length most
@@ -127,12 +127,11 @@ few-from (m ∷ n ∷ most) i values =
     let r = lineFrom (n ∷ most) (suc i) values noCall in
     omega (arith, length-append f (9 ∷ r), text-few m (getD values i 0), few-from (n ∷ most) (suc i) values)
 
-pub line-few : (most values : List ℕ) → length most ≤ 14 → length (lineOf most values noCall) ≤ 462
+pub line-few : (most values : List ℕ) → length most ≤ mostFields → length (lineOf most values noCall) ≤ 33 * mostFields
 line-few most values h = omega (arith, ap length (line-whole most values noCall h), few-from most 0 values)
 
--- a line of no octets is written by writing nothing, and by no writing
-pub write-none : (out line : List ℕ) → length line ≡ 0
-    → (0 ≡ cond (ltb (length out) (length line)) 0 (length line)) × (out ≡ cond (ltb (length out) (length line)) out (sets out 0 line))
+-- where the line is empty, the count is 0 and the buffer stays, whether or not it fits
+pub write-none : (out line : List ℕ) → length line ≡ 0 → Writes out line 0 out
 write-none out [] h = by (ltb (length out) 0)
   where
     by : (b : Bool) → (_≡_ {A = ℕ} 0 (cond b 0 0)) × (out ≡ cond b out out)

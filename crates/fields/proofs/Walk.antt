@@ -8,21 +8,34 @@ use native.Mathlib.Numerals.{add-one}
 use native.Mathlib.Omega.{arith}
 use lib.Dec.{ltb, eqb}
 use lib.ListN.{length, drop, getD, set, length-append, length-drop}
-use borrow.Author.Tests.{lt-ltb, le-ltb, eq-eqb, ne-eqb, eqb-true}
+use borrow.Author.Tests.{lt-ltb, le-ltb, ltb-true, ltb-false, eq-eqb, ne-eqb, eqb-true}
+use Rattle.laws.proofs.Bools.{never, not-both}
 use Rattle.laws.proofs.Runs.{at-step, at-end}
 use Rattle.fields.specs.declared.numbers.Number.{Number}
 use Rattle.fields.specs.declared.numbers.Number.the-variants.{Is, Bad}
 use Rattle.fields.specs.declared.calls.ReadCall.{ReadCall}
-use Rattle.fields.specs.declared.Fault.the-variants.{TooLong, WrongCount, BadField}
+use Rattle.fields.specs.declared.Fault.{Fault}
+use Rattle.fields.specs.declared.Fault.the-variants.{NoFault, TooLong, WrongCount, BadField}
 use Rattle.fields.specs.declared.Fields.{Fields}
 use Rattle.fields.specs.Parts.{before, after, tabs}
 use Rattle.fields.specs.Numbers.{numberOf}
 use Rattle.table.specs.Places.{noCall}
 use Rattle.fields.specs.Calls.{callOf}
-use Rattle.fields.specs.Line.{callField, mostFields, noValues, says, fails, withNumber, withCall, walk, readFields}
-use Rattle.fields.specs.FirstBad.{isGood}
+use Rattle.fields.specs.Line.{callField, mostFields, noValues, says, fails, isNone, withNumber, withCall, walk, readFields}
+use Rattle.fields.specs.FirstBad.{suits, RightSize}
 use Rattle.fields.proofs.PartLaws.{after-field}
 use Rattle.fields.proofs.Joined.{cut-line, cut-tabs}
+
+-- a fault that is none
+pub no-fault : (f : Fault) → isNone f ≡ true → f ≡ NoFault
+no-fault NoFault h = refl
+no-fault TooLong h = never h
+no-fault WrongCount h = never h
+no-fault (BadField i) h = never h
+
+-- what a fault gives is not what a line says
+pub fails-not-says : (f : Fault) (values call : List ℕ) → isNone f ≡ false → fails f ≡ says values call → ⊥
+fails-not-says f values call h q = not-both (ap (λ (r : Fields). isNone (r .fault)) q) h
 
 -- a greatest value above 0 is a number's
 pub is-number : (m : ℕ) → eqb (suc m) callField ≡ false
@@ -31,7 +44,7 @@ is-number m = ne-eqb (suc m) callField (λ q. omega arith)
 -- no field is left; the next one is bad, and the walk ends with it; it is the call; it is a number
 module _ (P : List ℕ → ℕ → List ℕ → List ℕ → List ℕ → Fields → Type 0)
     (end : (i : ℕ) (s values call : List ℕ) → P [] i s values call (says values call))
-    (bad : (m : ℕ) (most : List ℕ) (i : ℕ) (s values call : List ℕ) → isGood m (before s) ≡ false → P (m ∷ most) i s values call (fails (BadField (suc i))))
+    (bad : (m : ℕ) (most : List ℕ) (i : ℕ) (s values call : List ℕ) → suits m (before s) ≡ false → P (m ∷ most) i s values call (fails (BadField (suc i))))
     (a-call : (most : List ℕ) (i : ℕ) (s values call c : List ℕ) (r : Fields) → callOf (before s) ≡ record { good = true; call = c }
     → P most (suc i) (after s) values c r → P (callField ∷ most) i s values call r)
     (a-number : (m : ℕ) (most : List ℕ) (i : ℕ) (s values call : List ℕ) (v : ℕ) (r : Fields) → numberOf (before s) (suc m) ≡ Is v
@@ -54,17 +67,25 @@ module _ (P : List ℕ → ℕ → List ℕ → List ℕ → List ℕ → Fields
       go Bad q rest = bad (suc m) most i s values call (rw (is-number m, q))
 
 -- what is read of a line, in three cases: it is too long; it has another count of fields; its fields are walked through
-pub by-tests : (P : Fields → Type 0) (longest : ℕ) (most s : List ℕ) → P (fails TooLong) → P (fails WrongCount)
-    → (tabs s + 1 ≡ length most → P (walk most 0 s noValues noCall)) → P (readFields longest most s)
+pub by-tests : (P : Fields → Type 0) (longest : ℕ) (most s : List ℕ) → (longest < length s → P (fails TooLong))
+    → (length s ≤ longest → (RightSize longest most s → ⊥) → P (fails WrongCount))
+    → (RightSize longest most s → P (walk most 0 s noValues noCall)) → P (readFields longest most s)
 unfolding readFields
-by-tests P longest most s long count walked = by (ltb longest (length s)) (ltb mostFields (length most)) (eqb (tabs s + 1) (length most)) refl
+by-tests P longest most s long count walked =
+    by (ltb longest (length s)) (ltb mostFields (length most)) (eqb (tabs s + 1) (length most)) refl refl refl
   where
-    by : (a m b : Bool) → eqb (tabs s + 1) (length most) ≡ b
+    by : (a m b : Bool) → ltb longest (length s) ≡ a → ltb mostFields (length most) ≡ m → eqb (tabs s + 1) (length most) ≡ b
         → P (cond a (fails TooLong) (cond m (fails WrongCount) (cond b (walk most 0 s noValues noCall) (fails WrongCount))))
-    by true m b q = long
-    by false true b q = count
-    by false false true q = walked (eqb-true (tabs s + 1) (length most) q)
-    by false false false q = count
+    by true m b p q r = long (ltb-true longest (length s) p)
+    by false true b p q r =
+        count (ltb-false longest (length s) p) (λ x. omega (arith, x .few, ltb-true mostFields (length most) q))
+    by false false true p q r =
+        walked record {
+          short = ltb-false longest (length s) p;
+          few = ltb-false mostFields (length most) q;
+          as-many = eqb-true (tabs s + 1) (length most) r;
+        }
+    by false false false p q r = count (ltb-false longest (length s) p) (λ x. not-both (eq-eqb (tabs s + 1) (length most) (x .as-many)) r)
 
 module _ (s most values call : List ℕ) (at i : ℕ) (within : i < length most) where
   pub call-bad : (r : ReadCall) → getD most i 0 ≡ 0 → r ≡ callOf (before (drop at s)) → r .good ≡ false
@@ -109,14 +130,14 @@ module _ (longest : ℕ) (most s : List ℕ) where
   unfolding readFields
   line-long h = rw (lt-ltb longest (length s) h)
 
-  pub line-many : length s ≤ longest → 14 < length most → readFields longest most s ≡ fails WrongCount
+  pub line-many : length s ≤ longest → mostFields < length most → readFields longest most s ≡ fails WrongCount
   unfolding readFields
-  line-many h m = rw (le-ltb longest (length s) h, lt-ltb 14 (length most) m)
+  line-many h m = rw (le-ltb longest (length s) h, lt-ltb mostFields (length most) m)
 
-  pub line-parts : length s ≤ longest → length most ≤ 14 → (tabs s + 1 ≡ length most → ⊥) → readFields longest most s ≡ fails WrongCount
+  pub line-parts : length s ≤ longest → length most ≤ mostFields → (tabs s + 1 ≡ length most → ⊥) → readFields longest most s ≡ fails WrongCount
   unfolding readFields
-  line-parts h m k = rw (le-ltb longest (length s) h, le-ltb 14 (length most) m, ne-eqb (tabs s + 1) (length most) k)
+  line-parts h m k = rw (le-ltb longest (length s) h, le-ltb mostFields (length most) m, ne-eqb (tabs s + 1) (length most) k)
 
-  pub line-walk : length s ≤ longest → length most ≤ 14 → tabs s + 1 ≡ length most → readFields longest most s ≡ walk most 0 s noValues noCall
+  pub line-walk : length s ≤ longest → length most ≤ mostFields → tabs s + 1 ≡ length most → readFields longest most s ≡ walk most 0 s noValues noCall
   unfolding readFields
-  line-walk h m k = rw (le-ltb longest (length s) h, le-ltb 14 (length most) m, eq-eqb (tabs s + 1) (length most) k)
+  line-walk h m k = rw (le-ltb longest (length s) h, le-ltb mostFields (length most) m, eq-eqb (tabs s + 1) (length most) k)

@@ -1,10 +1,12 @@
 -- A line by its description (document 01, "Lines, image, status"): fields parted by tabs, and for each of them the greatest number that may stand
 -- there, or that it is the call. What a line says, with its first fault, and how a line is written are defined once, over the description.
+use mathlib.Core.Path.{_≡_}
 use mathlib.Core.Bool.{Bool, true, false, cond}
 use mathlib.Core.List.{List, [], _∷_, _++_}
 use Prim.Native.Nat.{ℕ, suc, _+_}
 use lib.Dec.{ltb, eqb}
 use lib.ListN.{length, getD, set, replicate}
+use lib.Seq.{sets}
 use Rattle.table.specs.Places.{noCall}
 use Rattle.fields.specs.declared.numbers.Number.{Number}
 use Rattle.fields.specs.declared.numbers.Number.the-variants.{Is, Bad}
@@ -18,7 +20,7 @@ use Rattle.fields.specs.Calls.{callOf, hexOf}
 
 -- ---- descriptions
 
--- A description is the list of what its fields may be: the greatest value of a number, which is above 0, or this for the call.
+-- A description, `most` below, has for each field the greatest value of the number that stands there, which is above 0, or this for the call.
 abbrev pub callField : ℕ
 callField = 0
 
@@ -56,7 +58,7 @@ walk (m ∷ most) i s values call =
     (withCall (suc i) (callOf (before s)) λ c. walk most (suc i) (after s) values c)
     (withNumber (suc i) (numberOf (before s) m) λ v. walk most (suc i) (after s) (set values i v) call)
 
--- "line longer than .. octets"; "not exactly .. fields", which no line has by a description of too many; then the fields
+-- "line longer than .. octets"; "not exactly .. fields", and no line fits a description of more than `mostFields`; then the fields
 unfoldable pub readFields : ℕ → List ℕ → List ℕ → Fields
 readFields longest most s =
     cond (ltb longest (length s)) (fails TooLong)
@@ -78,7 +80,7 @@ faultField (BadField i) = i
 
 -- ---- how a line is written
 
--- a field
+-- the text of a field: the digits of the call, or those of its number
 unfoldable pub text : ℕ → ℕ → List ℕ → List ℕ
 text m v call = cond (eqb m callField) (hexOf call) (decimal v)
 
@@ -92,6 +94,11 @@ lineFrom [] i values call = []
 lineFrom (m ∷ []) i values call = text m (getD values i 0) call
 lineFrom (m ∷ n ∷ most) i values call = joined (text m (getD values i 0) call) (lineFrom (n ∷ most) (suc i) values call)
 
--- the line; none by a description of too many fields
+-- the line; it is empty by a description of no field, or of more than `mostFields`
 abbrev pub lineOf : List ℕ → List ℕ → List ℕ → List ℕ
 lineOf most values call = cond (ltb mostFields (length most)) [] (lineFrom most 0 values call)
+
+-- what comes of writing a line into a buffer, the count of octets and what then stands there: the line where it fits, and nothing where not
+abbrev pub Writes : List ℕ → List ℕ → ℕ → List ℕ → Type 0
+Writes out line count left =
+    (count ≡ cond (ltb (length out) (length line)) 0 (length line)) × (left ≡ cond (ltb (length out) (length line)) out (sets out 0 line))

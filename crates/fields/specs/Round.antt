@@ -1,5 +1,6 @@
--- The two round trips of a line, over its description: what is written reads back, and a line that reads is written back octet for octet. Of the
--- description they ask what `Description` has, and of what is written that the fields can hold it (`Contents`).
+-- The two round trips of a line, over its description: what is written reads back, and a line that reads is written back octet for octet. They hold
+-- for a description of at most fourteen fields, just one of them the call, and numbers of 16 bits (`Description`); the first asks besides that the
+-- fields can hold what is written (`Contents`).
 use mathlib.Core.Path.{_≡_}
 use mathlib.Core.Bool.{Bool, true, false, cond}
 use mathlib.Core.List.{List, [], _∷_}
@@ -10,9 +11,9 @@ use Rattle.table.specs.Places.{callOctets}
 use Rattle.fields.specs.Line.{callField, mostFields, says, readFields, lineOf}
 
 -- how many of the fields are the call
-abbrev pub callsIn : List ℕ → ℕ
-callsIn [] = 0
-callsIn (m ∷ most) = cond (eqb m callField) (suc (callsIn most)) (callsIn most)
+abbrev pub callFields : List ℕ → ℕ
+callFields [] = 0
+callFields (m ∷ most) = cond (eqb m callField) (suc (callFields most)) (callFields most)
 
 -- do all numbers have 16 bits
 abbrev pub isSmall : List ℕ → Bool
@@ -21,7 +22,7 @@ isSmall (m ∷ most) = cond (leb m 65535) (isSmall most) false
 
 pub record Description (most : List ℕ) : Type 0 where
   pub few : length most ≤ mostFields
-  pub one-call : callsIn most ≡ 1
+  pub one-call : callFields most ≡ 1
   pub small : isSmall most ≡ true
 
 -- each value, from index i on, is at most the greatest of its field; at the call's index it is 0
@@ -29,13 +30,16 @@ abbrev pub Within : List ℕ → ℕ → List ℕ → Type 0
 Within [] i values = Unit {0}
 Within (m ∷ most) i values = (getD values i 0 ≤ m) × Within most (suc i) values
 
+pub record CallInRange (call : List ℕ) : Type 0 where
+  pub long : length call ≡ callOctets
+  pub octets : (i : ℕ) → getD call i 0 < 256
+
 -- values and a call that a line of this description can hold
 pub record Contents (most values call : List ℕ) : Type 0 where
   pub size : length values ≡ mostFields
   pub within : Within most 0 values
   pub no-more : (j : ℕ) → length most ≤ j → getD values j 0 ≡ 0
-  pub long : length call ≡ callOctets
-  pub octets : (i : ℕ) → getD call i 0 < 256
+  pub in-range : CallInRange call
 
 -- `read-written`
 abbrev pub ReadsBack : Type 0

@@ -10,16 +10,14 @@ use numbers::Number;
 use table::Call;
 use table::Table;
 ghost use mathlib.Core.Path.{_≡_};
-ghost use mathlib.Core.Bool.{cond};
 ghost use Prim.Native.Nat.{_+_, _≤_, _<_};
-ghost use lib.Dec.{ltb};
 ghost use lib.ListN.{length};
 ghost use lib.Seq.{sets};
 ghost use Rattle.table.specs.Places.{noCall};
 ghost use Rattle.fields.specs.Parts.{tabs};
-ghost use Rattle.fields.specs.Line.{mostFields, noValues, fails, walk, readFields, isNone, faultField, text, lineFrom, lineOf};
+ghost use Rattle.fields.specs.Line.{mostFields, noValues, fails, walk, readFields, isNone, faultField, text, lineFrom, lineOf, Writes};
 
-// A description is a slice of what its fields may be: the greatest value of a number, which is above 0, or this for the call.
+// A description has for each field the greatest value of the number that stands there, which is above 0, or this for the call.
 pub const CALL: u16 = 0;
 
 // The most fields that a description may have.
@@ -81,17 +79,17 @@ fn fail(fault: Fault) -> Fields
 }
 
 // The one walk through a line that has as many fields as its description.
-fn walk_fields(line: &[u8], most: &[u16]) -> Fields
-    requires { ⌜ (length (now line) ≤ 255) × (length (now most) ≤ mostFields) × (tabs (now line) + 1 ≡ length (now most)) ⌝ }
-    ensures { λ r. ⌜ r ≡ walk (now (most .entry)) 0 (now (line .entry)) noValues noCall ⌝ }
+fn walk_fields(line: &[u8], description: &[u16]) -> Fields
+    requires { ⌜ (length (now line) ≤ 255) × (length (now description) ≤ mostFields) × (tabs (now line) + 1 ≡ length (now description)) ⌝ }
+    ensures { λ r. ⌜ r ≡ walk (now (description .entry)) 0 (now (line .entry)) noValues noCall ⌝ }
 {
     let mut values = [0u16; MOST_FIELDS];
     let mut call = [0u8; Table::CALL_OCTETS];
     let mut at: usize = 0;
     let mut i: usize = 0;
-    while i < most.len() {
+    while i < description.len() {
         let field = parts::first_field(&line[at..]);
-        let m = most[i];
+        let m = description[i];
         if m == CALL {
             let c = calls::read_call(field);
             if !c.good {
@@ -115,19 +113,19 @@ fn walk_fields(line: &[u8], most: &[u16]) -> Fields
 }
 
 // What a line says, by its description and the greatest length that it may have.
-pub fn read_fields(line: &[u8], longest: u8, most: &[u16]) -> Fields
-    ensures { λ r. ⌜ r ≡ readFields longest (now (most .entry)) (now (line .entry)) ⌝ }
+pub fn read_fields(line: &[u8], longest: u8, description: &[u16]) -> Fields
+    ensures { λ r. ⌜ r ≡ readFields longest (now (description .entry)) (now (line .entry)) ⌝ }
 {
     if (longest as usize) < line.len() {
         return fail(Fault::TooLong);
     }
-    if MOST_FIELDS < most.len() {
+    if MOST_FIELDS < description.len() {
         return fail(Fault::WrongCount);
     }
-    if parts::count_tabs(line) as usize + 1 != most.len() {
+    if parts::count_tabs(line) as usize + 1 != description.len() {
         return fail(Fault::WrongCount);
     }
-    walk_fields(line, most)
+    walk_fields(line, description)
 }
 
 // Writes a field from an index of the buffer on, and gives the index after it.
@@ -142,7 +140,7 @@ fn put_field(out: &mut [u8], at: usize, m: u16, v: u16, call: Call) -> usize
     }
 }
 
-// How many octets a field has; a call has as many as any other.
+// How many octets a field has; every call has 32.
 fn field_length(m: u16, v: u16) -> usize
     ensures { λ r. ⌜ r ≡ length (text m v noCall) ⌝ }
 {
@@ -153,62 +151,62 @@ fn field_length(m: u16, v: u16) -> usize
     }
 }
 
-// How many octets the fields of a line have, with the tabs between them; its call, as any other, has 32.
-fn sum_lengths(most: &[u16], values: Values) -> usize
-    requires { ⌜ (0 < length (now most)) × (length (now most) ≤ mostFields) ⌝ }
-    ensures { λ r. ⌜ r ≡ length (lineFrom (now (most .entry)) 0 values noCall) ⌝ }
+// How many octets the fields of a line have, with the tabs between them.
+fn sum_lengths(description: &[u16], values: Values) -> usize
+    requires { ⌜ (0 < length (now description)) × (length (now description) ≤ mostFields) ⌝ }
+    ensures { λ r. ⌜ r ≡ length (lineFrom (now (description .entry)) 0 values noCall) ⌝ }
 {
-    let last = most.len() - 1;
+    let last = description.len() - 1;
     let mut n: usize = 0;
     let mut i: usize = 0;
     while i < last {
-        n = n + field_length(most[i], values[i]) + 1;
+        n = n + field_length(description[i], values[i]) + 1;
         i += 1;
     }
-    n + field_length(most[last], values[last])
+    n + field_length(description[last], values[last])
 }
 
-// How many octets a line has, whatever its call.
-pub fn fields_length(most: &[u16], values: Values) -> usize
-    ensures { λ r. ⌜ r ≡ length (lineOf (now (most .entry)) values noCall) ⌝ }
+// How many octets a line has, whatever its call; 0 by a description of no field, or of too many.
+pub fn fields_length(description: &[u16], values: Values) -> usize
+    ensures { λ r. ⌜ r ≡ length (lineOf (now (description .entry)) values noCall) ⌝ }
 {
-    if most.len() == 0 {
+    if description.len() == 0 {
         return 0;
     }
-    if MOST_FIELDS < most.len() {
+    if MOST_FIELDS < description.len() {
         return 0;
     }
-    sum_lengths(most, values)
+    sum_lengths(description, values)
 }
 
 // Writes a line at the front of the buffer, where there is room for it, and gives its length.
-fn put_fields(out: &mut [u8], most: &[u16], values: Values, call: Call) -> usize
-    requires { ⌜ (0 < length (now most)) × (length (now most) ≤ mostFields) × (length (lineFrom (now most) 0 values call) ≤ length (now out)) ⌝ }
-    ensures { λ r. ⌜ (r ≡ length (lineFrom (now (most .entry)) 0 values call)) × (now (out .exit) ≡ sets (now (out .entry)) 0 (lineFrom (now (most .entry)) 0 values call)) ⌝ }
+fn put_fields(out: &mut [u8], description: &[u16], values: Values, call: Call) -> usize
+    requires { ⌜ (0 < length (now description)) × (length (now description) ≤ mostFields) × (length (lineFrom (now description) 0 values call) ≤ length (now out)) ⌝ }
+    ensures { λ r. ⌜ (r ≡ length (lineFrom (now (description .entry)) 0 values call)) × (now (out .exit) ≡ sets (now (out .entry)) 0 (lineFrom (now (description .entry)) 0 values call)) ⌝ }
 {
-    let last = most.len() - 1;
+    let last = description.len() - 1;
     let mut p: usize = 0;
     let mut i: usize = 0;
     while i < last {
-        p = put_field(out, p, most[i], values[i], call);
+        p = put_field(out, p, description[i], values[i], call);
         out[p] = 9;
         p += 1;
         i += 1;
     }
-    put_field(out, p, most[last], values[last], call)
+    put_field(out, p, description[last], values[last], call)
 }
 
 // Writes a line at the front of the buffer, and gives its length; in a buffer that is too short it writes nothing, and gives 0. Octets
 // beyond the line stay.
-pub fn write_fields(out: &mut [u8], most: &[u16], values: Values, call: Call) -> usize
-    ensures { λ r. ⌜ (r ≡ cond (ltb (length (now (out .entry))) (length (lineOf (now (most .entry)) values call))) 0 (length (lineOf (now (most .entry)) values call))) × (now (out .exit) ≡ cond (ltb (length (now (out .entry))) (length (lineOf (now (most .entry)) values call))) (now (out .entry)) (sets (now (out .entry)) 0 (lineOf (now (most .entry)) values call))) ⌝ }
+pub fn write_fields(out: &mut [u8], description: &[u16], values: Values, call: Call) -> usize
+    ensures { λ r. ⌜ Writes (now (out .entry)) (lineOf (now (description .entry)) values call) r (now (out .exit)) ⌝ }
 {
-    let n = fields_length(most, values);
+    let n = fields_length(description, values);
     if n == 0 {
         return 0;
     }
     if out.len() < n {
         return 0;
     }
-    put_fields(out, most, values, call)
+    put_fields(out, description, values, call)
 }

@@ -59,7 +59,7 @@ fn act_on(image: &mut [u8], e: Event) -> Answer
     }
 }
 
-// THE STEP. Any table and any event have an answer: a table that is not sound is refused by 25, and the event then by 1 to 10
+// THE STEP. Any table and any event have an answer: a table that is not sound is refused by 25, and the event then by 1 to 12
 // or not at all.
 pub fn single_step(t: Table, e: Event) -> Step
     ensures { λ r. ⌜ r ≡ stepOf t e ⌝ }

@@ -1,4 +1,5 @@
--- The numbers of faults: at most 24, and 0 only where there is none. A line that is too long has no other.
+-- The numbers of faults: at most 24, and 0 only where there is none. A line that is too long reads as 21 and zeros, whatever
+-- stands in it.
 use mathlib.Core.Path.{_≡_, refl, ap}
 use mathlib.Core.List.{List}
 use mathlib.Core.Bool.{Bool, true, false, cond}
@@ -28,7 +29,7 @@ fault-most TooLong = lit≤ tt
 fault-most WrongCount = lit≤ tt
 fault-most (BadField i) = bad-number (λ n. n ≤ 24) i (lit≤ tt) (lit≤ tt)
 
-pub bad-above : (i : ℕ) → 0 < faultNumber (BadField i)
+bad-above : (i : ℕ) → 0 < faultNumber (BadField i)
 bad-above i = bad-number (λ n. 0 < n) i (omega arith) (omega arith)
 
 pub no-fault : (f : Fault) → faultNumber f ≡ 0 → f ≡ NoFault

@@ -1,5 +1,5 @@
 -- How long a line is: as its writer counts it, whatever the call; and as the digits of its numbers, the 32 of its call, its tabs and, in an
--- answer, its line feed. The bounds follow from the ranges of the numbers.
+-- answer, its line feed.
 use mathlib.Core.Path.{_≡_, ap, _∙_}
 use Prim.Native.Nat.{ℕ, _+_}
 use native.Mathlib.Omega.{arith}

@@ -17,4 +17,4 @@ pub read-ranged : (line : List ℕ) → Ranged (readLine line)
 unfolding readLine reading
 read-ranged line =
     let r = fields.read-ranged longestEvent eventFields line in
-    record { number = fault-most (reading line .fault); call = r .call; connection = r .value 4 }
+    record { number = fault-most (reading line .fault); call = r .call .long; connection = r .value 4 }

@@ -1,33 +1,34 @@
--- The two round trips of event lines and of answer lines: those of `fields`, at the two descriptions.
+-- The two round trips of event lines and of answer lines: those of `fields`, at the two descriptions. With them the ranges of what is read, and how
+-- long such lines can be, which follows from the ranges.
 use mathlib.Core.Path.{_≡_, refl, sym, ap, _∙_}
-use mathlib.Core.Bool.{true}
 use mathlib.Core.List.{List, [], _∷_, _++_}
-use Prim.Native.Nat.{ℕ, _≤_}
+use Prim.Native.Nat.{ℕ, _+_, _≤_}
 use native.Mathlib.Omega.{arith}
 use lib.Dec.{lit≤}
-use lib.ListN.{drop}
+use lib.ListN.{length, drop, getD}
 use Rattle.laws.proofs.Runs.{length-snoc, zeros-after}
 use Rattle.events.specs.declared.Event.{Event}
 use Rattle.events.specs.declared.Answer.{Answer}
 use Rattle.events.specs.declared.message.Sent.{Sent}
-use Rattle.fields.specs.declared.Fault.{Fault}
-use Rattle.fields.specs.declared.Fault.the-variants.{NoFault, TooLong, WrongCount, BadField}
+use Rattle.fields.specs.declared.Fault.the-variants.{NoFault}
 use Rattle.fields.specs.declared.Fields.{Fields}
-use Rattle.fields.specs.Line.{says, isNone, text, lineFrom, lineOf}
+use Rattle.fields.specs.Line.{says, isNone, readFields, text, lineFrom, lineOf}
 use Rattle.fields.specs.Round.{Description, Within, Contents}
 use Rattle.fields.proofs.Decimal.{length-three, length-five}
+use Rattle.fields.proofs.Walk as walk
+use Rattle.fields.proofs.Ranged.{Ranged, read-ranged}
 use Rattle.fields.proofs.Round as round
 use Rattle.lines.specs.declared.ReadEvent.{ReadEvent}
 use Rattle.lines.specs.EventLine.{eventFields, longestEvent, eventValues, eventIn, reading, faultNumber, readLine, eventLine}
-use Rattle.lines.specs.AnswerLine.{answerFields, longestAnswer, answerValues, answerIn, readingAnswer, readAnswer, answerText, answerLine}
+use Rattle.lines.specs.AnswerLine.{answerFields, longestAnswer, answerValues, sentIn, answerIn, readingAnswer, readAnswer, answerText, answerLine}
 use Rattle.lines.specs.Round as statements
 use Rattle.lines.specs.Round.{EventInRange, SentInRange, AnswerInRange}
 use Rattle.lines.proofs.Faults.{no-fault}
 use Rattle.lines.proofs.Lengths.{sentSize, length-event, length-answer}
 
 -- what was read, where there is no fault
-no-more : (r : Fields) → r .fault ≡ NoFault → r ≡ says (r .values) (r .call)
-no-more r none = λ i. record { fault = none i; values = r .values; call = r .call }
+says-it : (r : Fields) → r .fault ≡ NoFault → r ≡ says (r .values) (r .call)
+says-it r none = λ i. record { fault = none i; values = r .values; call = r .call }
 
 -- ---- event lines
 
@@ -39,8 +40,7 @@ event-contents e h = record {
   size = refl;
   within = (h .kind, (lit≤ tt, (h .place, (h .choice, (h .connection, (h .invoke, (h .timer, tt)))))));
   no-more = zeros-after 7 7 (eventValues e) refl;
-  long = h .call .long;
-  octets = h .call .octets;
+  in-range = h .call;
 }
 
 pub event-line-short : statements.EventLineShort
@@ -73,7 +73,22 @@ event-written-back s e q =
     let none = no-fault (r .fault) (ap (λ (x : ReadEvent). x .number) q) in
     ap (λ (x : ReadEvent). eventLine (x .event)) (sym q)
     ∙ event-in-place r
-    ∙ round.written-read longestEvent eventFields s (r .values) (r .call) event-description (no-more r none)
+    ∙ round.written-read longestEvent eventFields s (r .values) (r .call) event-description (says-it r none)
+
+event-of : (r : Fields) → Ranged eventFields r → EventInRange (eventIn r)
+event-of r h = record {
+  kind = h .value 0;
+  call = h .call;
+  place = h .value 2;
+  choice = h .value 3;
+  connection = h .value 4;
+  invoke = h .value 5;
+  timer = h .value 6;
+}
+
+pub event-in-range : statements.EventReadInRange
+unfolding readLine reading
+event-in-range s = event-of (reading s) (read-ranged longestEvent eventFields s)
 
 -- ---- answer lines
 
@@ -92,8 +107,7 @@ answer-contents a h =
       size = refl;
       within = (h .number, (lit≤ tt, (h .place, (h .state, first))));
       no-more = zeros-after 14 0 (answerValues a) refl;
-      long = h .call .long;
-      octets = h .call .octets;
+      in-range = h .call;
     }
 
 sent-short : (x : Sent) → SentInRange x → sentSize x ≤ 19
@@ -107,7 +121,7 @@ sent-short x h =
     )
 
 -- 79 digits at most, and 13 tabs
-pub answer-text-short : statements.AnswerTextShort
+answer-text-short : (a : Answer) → AnswerInRange a → length (answerText a) ≤ longestAnswer
 unfolding answerLine
 answer-text-short a h =
     omega (
@@ -129,19 +143,40 @@ answer-read-back a h =
     let same = round.read-written longestAnswer answerFields (answerValues a) (a .call) answer-description (answer-contents a h) (answer-text-short a h) in
     λ i. record { good = isNone (same i .fault); answer = answerIn (same i) }
 
-answer-in-place : (r : Fields) → answerLine (answerIn r) ≡ lineOf answerFields (r .values) (r .call) ++ (10 ∷ [])
-unfolding answerLine lineFrom text
-answer-in-place r = refl
-
-is-none : (f : Fault) → isNone f ≡ true → f ≡ NoFault
-is-none NoFault h = refl
-is-none TooLong h = let z : _≡_ {A = ℕ} 0 1 = cc in absurd (omega arith)
-is-none WrongCount h = let z : _≡_ {A = ℕ} 0 1 = cc in absurd (omega arith)
-is-none (BadField i) h = let z : _≡_ {A = ℕ} 0 1 = cc in absurd (omega arith)
+text-in-place : (r : Fields) → answerText (answerIn r) ≡ lineOf answerFields (r .values) (r .call)
+unfolding lineFrom text
+text-in-place r = refl
 
 pub answer-written-back : statements.AnswerWritesBack
-unfolding readAnswer
+unfolding readAnswer answerLine
 answer-written-back s h =
     let r = readingAnswer s in
-    answer-in-place r
-    ∙ ap (λ (l : List ℕ). l ++ (10 ∷ [])) (round.written-read longestAnswer answerFields s (r .values) (r .call) answer-description (no-more r (is-none (r .fault) h)))
+    let none = walk.no-fault (r .fault) h in
+    ap (λ (l : List ℕ). l ++ (10 ∷ [])) (text-in-place r ∙ round.written-read longestAnswer answerFields s (r .values) (r .call) answer-description (says-it r none))
+
+sent-of : (v : ℕ → ℕ) (i : ℕ) → v i ≤ 255 → v (i + 1) ≤ 65535 → v (i + 2) ≤ 65535 → v (i + 3) ≤ 255 → SentInRange (sentIn v i)
+sent-of v i m c n e = record { message = m; connection = c; invoke = n; error = e }
+
+answer-of : (r : Fields) → Ranged answerFields r → AnswerInRange (answerIn r)
+answer-of r h =
+    let v : ℕ → ℕ = λ i. getD (r .values) i 0 in
+    record {
+      number = h .value 0;
+      call = h .call;
+      place = h .value 2;
+      state = h .value 3;
+      first = sent-of v 4 (h .value 4) (h .value 5) (h .value 6) (h .value 7);
+      started = h .value 8;
+      stopped = h .value 9;
+      second = sent-of v 10 (h .value 10) (h .value 11) (h .value 12) (h .value 13);
+    }
+
+pub answer-in-range : statements.AnswerReadInRange
+unfolding readAnswer
+answer-in-range s = answer-of (readingAnswer s) (read-ranged longestAnswer answerFields s)
+
+pub bound-refuses-none : statements.BoundRefusesNone
+bound-refuses-none longest s none =
+    let r = readFields longest answerFields s in
+    let same = text-in-place r ∙ round.written-read longest answerFields s (r .values) (r .call) answer-description (says-it r none) in
+    omega (arith, ap length same, answer-text-short (answerIn r) (answer-of r (read-ranged longest answerFields s)))

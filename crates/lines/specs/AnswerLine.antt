@@ -2,9 +2,10 @@
 -- document 02, Q-1: "The answer line gets four fields at its end: message, connection, invoke, error of the second, zeros if there is none."):
 -- its description, an answer in its fields, the answer that a line says, and how an answer is written.
 use mathlib.Core.List.{List, [], _∷_, _++_}
-use Prim.Native.Nat.{ℕ}
+use Prim.Native.Nat.{ℕ, _+_}
 use lib.ListN.{getD}
 use Rattle.events.specs.declared.Answer.{Answer}
+use Rattle.events.specs.declared.message.Sent.{Sent}
 use Rattle.fields.specs.declared.Fields.{Fields}
 use Rattle.fields.specs.Line.{callField, readFields, isNone, lineOf}
 use Rattle.lines.specs.declared.ReadAnswer.{ReadAnswer}
@@ -12,18 +13,24 @@ use Rattle.lines.specs.declared.ReadAnswer.{ReadAnswer}
 -- ---- the description
 
 -- The ranges are those of document 02, Q-11: "connections and invokes to 65,535, other numbers to 255".
-abbrev pub answerFields : List ℕ
-answerFields =
-    255 ∷ callField ∷ 255 ∷ 255
-    ∷ 255 ∷ 65535 ∷ 65535 ∷ 255
-    ∷ 255 ∷ 255
-    ∷ 255 ∷ 65535 ∷ 65535 ∷ 255 ∷ []
 
--- No line of fourteen such fields is longer (`answer-text-short`), so that this bound refuses none.
+-- of a message: message, connection, invoke, error
+abbrev pub sentFields : List ℕ
+sentFields = 255 ∷ 65535 ∷ 65535 ∷ 255 ∷ []
+
+-- number, call, place, state after; the message; started, stopped; the second message
+abbrev pub answerFields : List ℕ
+answerFields = 255 ∷ callField ∷ 255 ∷ 255 ∷ (sentFields ++ (255 ∷ 255 ∷ sentFields))
+
+-- No line of fourteen such fields is longer, so that this bound refuses none (`bound-refuses-none`).
 abbrev pub longestAnswer : ℕ
 longestAnswer = 92
 
 -- ---- an answer in its fields
+
+-- a message, from the field with index i on
+abbrev pub sentIn : (ℕ → ℕ) → ℕ → Sent
+sentIn v i = record { message = v i; connection = record { 0 = v (i + 1) }; invoke = record { 0 = v (i + 2) }; error = v (i + 3) }
 
 abbrev pub answerIn : Fields → Answer
 answerIn f =
@@ -33,19 +40,20 @@ answerIn f =
       call = f .call;
       place = record { 0 = v 2 };
       state = v 3;
-      first = record { message = v 4; connection = record { 0 = v 5 }; invoke = record { 0 = v 6 }; error = v 7 };
+      first = sentIn v 4;
       started = v 8;
       stopped = v 9;
-      second = record { message = v 10; connection = record { 0 = v 11 }; invoke = record { 0 = v 12 }; error = v 13 };
+      second = sentIn v 10;
     }
 
--- and its values, each at its field's index
+-- the values of a message, in the order of its fields
+abbrev pub sentValues : Sent → List ℕ
+sentValues x = x .message ∷ x .connection .0 ∷ x .invoke .0 ∷ x .error ∷ []
+
+-- and of an answer, each at its field's index
 abbrev pub answerValues : Answer → List ℕ
 answerValues a =
-    a .number ∷ 0 ∷ a .place .0 ∷ a .state
-    ∷ a .first .message ∷ a .first .connection .0 ∷ a .first .invoke .0 ∷ a .first .error
-    ∷ a .started ∷ a .stopped
-    ∷ a .second .message ∷ a .second .connection .0 ∷ a .second .invoke .0 ∷ a .second .error ∷ []
+    a .number ∷ 0 ∷ a .place .0 ∷ a .state ∷ (sentValues (a .first) ++ (a .started ∷ a .stopped ∷ sentValues (a .second)))
 
 -- ---- the answer that a line says, the line coming without its line feed
 

@@ -1,16 +1,20 @@
 -- How the first bad field of a line stands to its reading (document 02, Q-3). Both are taken from what one walk through the line gives
 -- (`reading`); this says what the field that is named has to do with the fields as they stand in the line, and with the refusal.
 use mathlib.Core.Path.{_≡_}
-use mathlib.Core.Bool.{Bool, true, false, _||_}
+use mathlib.Core.Bool.{Bool, true, false, cond, _||_}
 use mathlib.Core.List.{List}
 use Prim.Native.Nat.{ℕ, _-_, _≤_, _<_}
 use lib.Dec.{eqb, ltb}
-use Rattle.fields.specs.FirstBad.{goodAt}
+use lib.ListN.{getD}
+use Rattle.fields.specs.Parts.{field}
+use Rattle.fields.specs.Numbers.{numberOf}
+use Rattle.fields.specs.Calls.{callOf}
+use Rattle.fields.specs.FirstBad.{isNumber}
 use Rattle.lines.specs.EventLine.{eventFields, readLine, badField}
 
--- is field i of the line, counted from 1, good: the second as a call, any other as a number
+-- is field i of the line, counted from 1, good: the second as a call, any other as a number of its range
 abbrev pub isGood : ℕ → List ℕ → Bool
-isGood i s = goodAt eventFields s (i - 1)
+isGood i s = cond (eqb i 2) (callOf (field i s) .good) (isNumber (numberOf (field i s) (getD eventFields (i - 1) 0)))
 
 -- `bad-field-stands`
 pub record BadFieldStands (s : List ℕ) : Type 0 where

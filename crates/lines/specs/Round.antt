@@ -1,23 +1,21 @@
--- The round trips of event lines and of answer lines (demand 2): what is written reads back, of any event and answer within the ranges of their
--- fields, and any line that reads is written back octet for octet. Each statement is proved in `proofs/Round.antt` under the name that
--- stands beside it.
+-- The round trips of event lines and of answer lines: what is written reads back, of any event and answer within the ranges of their
+-- fields, and any line that reads is written back octet for octet. With them: what is read is within those ranges, and how long such lines can
+-- be. Each statement is proved in `proofs/Round.antt` under the name that stands beside it.
 use mathlib.Core.Path.{_≡_}
 use mathlib.Core.Bool.{true}
 use mathlib.Core.List.{List, [], _∷_, _++_}
-use Prim.Native.Nat.{ℕ, _≤_, _<_}
-use lib.ListN.{length, getD}
-use Rattle.table.specs.Places.{callOctets}
+use Prim.Native.Nat.{ℕ, _≤_}
+use lib.ListN.{length}
 use Rattle.events.specs.declared.Event.{Event}
 use Rattle.events.specs.declared.Answer.{Answer}
 use Rattle.events.specs.declared.message.Sent.{Sent}
+use Rattle.fields.specs.declared.Fault.the-variants.{NoFault}
+use Rattle.fields.specs.Line.{readFields}
+use Rattle.fields.specs.Round.{CallInRange}
 use Rattle.lines.specs.EventLine.{longestEvent, readLine, read, eventLine}
-use Rattle.lines.specs.AnswerLine.{longestAnswer, readAnswer, answerText, answerLine}
+use Rattle.lines.specs.AnswerLine.{answerFields, longestAnswer, readAnswer, answerText, answerLine}
 
 -- ---- within the ranges of the fields: what the types say, and of an answer that its place is at most 255, as every place of the table is
-
-pub record CallInRange (call : List ℕ) : Type 0 where
-  pub long : length call ≡ callOctets
-  pub octets : (i : ℕ) → getD call i 0 < 256
 
 pub record EventInRange (e : Event) : Type 0 where
   pub kind : e .kind ≤ 255
@@ -54,6 +52,10 @@ EventReadsBack = (e : Event) → EventInRange e → readLine (eventLine e) ≡ r
 abbrev pub EventWritesBack : Type 0
 EventWritesBack = (s : List ℕ) (e : Event) → readLine s ≡ read e → eventLine e ≡ s
 
+-- `event-in-range`: of any line, refused ones too
+abbrev pub EventReadInRange : Type 0
+EventReadInRange = (s : List ℕ) → EventInRange (readLine s .event)
+
 -- `event-line-short`
 abbrev pub EventLineShort : Type 0
 EventLineShort = (e : Event) → EventInRange e → length (eventLine e) ≤ longestEvent
@@ -68,6 +70,10 @@ AnswerReadsBack = (a : Answer) → AnswerInRange a → readAnswer (answerText a)
 abbrev pub AnswerWritesBack : Type 0
 AnswerWritesBack = (s : List ℕ) → readAnswer s .good ≡ true → answerLine (readAnswer s .answer) ≡ s ++ (10 ∷ [])
 
--- `answer-text-short`
-abbrev pub AnswerTextShort : Type 0
-AnswerTextShort = (a : Answer) → AnswerInRange a → length (answerText a) ≤ longestAnswer
+-- `answer-in-range`: of any line, refused ones too
+abbrev pub AnswerReadInRange : Type 0
+AnswerReadInRange = (s : List ℕ) → AnswerInRange (readAnswer s .answer)
+
+-- `bound-refuses-none`: a line of the fourteen fields, read with whatever bound, has no more octets than the bound of `readAnswer`
+abbrev pub BoundRefusesNone : Type 0
+BoundRefusesNone = (longest : ℕ) (s : List ℕ) → readFields longest answerFields s .fault ≡ NoFault → length s ≤ longestAnswer

@@ -2,6 +2,7 @@
 -- the number or for the place. By the four cases of `Stepped`.
 use mathlib.Core.Path.{_≡_, refl, ap}
 use mathlib.Core.Logic.{_⊎_, inl, inr, ⊎-elim}
+use mathlib.Core.List.{List}
 use Prim.Native.Nat.{ℕ, _+_, _≤_, _<_}
 use native.Mathlib.Omega.{arith}
 use lib.Dec.{lit≤}
@@ -12,7 +13,7 @@ use Rattle.table.specs.declared.Invoke.{Invoke}
 use Rattle.table.specs.declared.Table.{Table}
 use Rattle.laws.specs.Lists.{below}
 use Rattle.table.specs.Ranks.{earliest, closedUp}
-use Rattle.table.specs.Places.{noPlace, noConnection, noInvoke, sideAt, recordAt, placeCount}
+use Rattle.table.specs.Places.{noPlace, noCall, noConnection, noInvoke, sideAt, recordAt, placeCount}
 use Rattle.events.specs.declared.Event.{Event}
 use Rattle.events.specs.declared.Answer.{Answer}
 use Rattle.events.specs.declared.message.Sent.{Sent}
@@ -28,8 +29,12 @@ use Rattle.fields.specs.Numbers.{decimal}
 use Rattle.fields.specs.Line.{text, lineFrom}
 use Rattle.fields.proofs.Decimal.{length-digit, length-two, length-five}
 use Rattle.lines.specs.AnswerLine.{answerLine}
+use Rattle.fields.specs.Round.{CallInRange}
+use Rattle.fields.proofs.Ranged.{no-call}
+use Rattle.lines.specs.Round.{SentInRange}
 use Rattle.lines.proofs.Lengths.{sentSize, length-answer}
-use Rattle.room.specs.Room.{RoomSuffices, Bare, Light, AnswersLight, longest, NoneLonger, LongestGiven}
+use Rattle.lines.proofs.Round.{answer-read-back}
+use Rattle.room.specs.Room.{RoomSuffices, Bare, Light, AnswersLight, longest, NoneLonger, LongestGiven, AnswersRead}
 use Rattle.events.proofs.Refusals.{tells}
 use Rattle.room.proofs.Messages.{nothing-bare, Within, nothing-sent, greeting-sent, refusal-sent, turns}
 
@@ -151,12 +156,13 @@ module _ (a : Answer) (small : Small a) (light : Light a) (typed : Typed a) wher
 
 -- ---- of every table and event
 
-call-long : (t : Table) (all : Full t) (e : Event) → ((i : ℕ) → i < placeCount → length (recordAt t i .call) ≡ 16) → length (e .call) ≡ 16
-    → (s : Step) → Stepped t (all .0) e s → length (s .answer .call) ≡ 16
-call-long t all e held given s (kept w) = refl
-call-long t all e held given s (begun d i sound rule room) = given
-call-long t all e held given s (ended k i first second at turn) = held i (at .inside)
-call-long t all e held given s (went-on k i g n m at turn) = held i (at .inside)
+-- the call of an answer is none, the event's, or one that the table holds
+call-from : (P : List ℕ → Type 0) → P noCall → (t : Table) (all : Full t) (e : Event) → ((i : ℕ) → i < placeCount → P (recordAt t i .call)) → P (e .call)
+    → (s : Step) → Stepped t (all .0) e s → P (s .answer .call)
+call-from P none t all e held given s (kept w) = none
+call-from P none t all e held given s (begun d i sound rule room) = given
+call-from P none t all e held given s (ended k i first second at turn) = held i (at .inside)
+call-from P none t all e held given s (went-on k i g n m at turn) = held i (at .inside)
 
 pub none-longer : NoneLonger
 none-longer t e table event =
@@ -164,7 +170,7 @@ none-longer t e table event =
     let view = stepped t (table .size .0) e in
     let x = outgoing (λ n. n ≤ 65535) (lit≤ tt) t (table .size) e (table .connection) (event .connection) s view in
     light-short (s .answer) (answers-small t e (table .size)) (answers-light t e (table .size))
-    (record { call = call-long t (table .size) e (table .call) (event .call) s view; first = x .first; second = x .second })
+    (record { call = call-from (λ c. length c ≡ 16) refl t (table .size) e (table .call) (event .call) s view; first = x .first; second = x .second })
 
 pub room-suffices : RoomSuffices
 room-suffices t e table event = omega (arith, none-longer t e table event)
@@ -179,3 +185,33 @@ number-short n h =
     light-short (saying n NoMessage) (saying-small n NoMessage h)
     (record { number-or-place = inr refl; first = inl refl; second = inl refl; one-bare = inl nothing-bare })
     (record { call = refl; first = nothing-sent (λ n. n ≤ 65535) (lit≤ tt); second = nothing-sent (λ n. n ≤ 65535) (lit≤ tt) })
+
+-- ---- read back
+
+sent-in-range : (x : Sent) → SmallSent x → Within (λ n. n ≤ 65535) x → SentInRange x
+sent-in-range x small w = record {
+  message = omega (arith, small .message);
+  connection = w .connection;
+  invoke = w .invoke;
+  error = omega (arith, small .error);
+}
+
+pub answers-read : AnswersRead
+answers-read t e table event held given =
+    let s = stepOf t e in
+    let view = stepped t (table .size .0) e in
+    let x = outgoing (λ n. n ≤ 65535) (lit≤ tt) t (table .size) e (table .connection) (event .connection) s view in
+    let small = answers-small t e (table .size) in
+    answer-read-back (s .answer) record {
+      number = omega (arith, small .number);
+      call =
+          call-from CallInRange no-call t (table .size) e
+          (λ i h. record { long = table .call i h; octets = held i h })
+          record { long = event .call; octets = given } s view;
+      place = omega (arith, small .place);
+      state = omega (arith, small .state);
+      first = sent-in-range (s .answer .first) (small .first) (x .first);
+      started = omega (arith, small .started);
+      stopped = omega (arith, small .stopped);
+      second = sent-in-range (s .answer .second) (small .second) (x .second);
+    }

@@ -1,13 +1,14 @@
 -- How much room the stack sets aside for the line of an answer (document 02, Q-2: "no line of an answer the table gives is longer than 77
--- octets, line feed included"), and the longest line that is really given. Each statement is proved in `proofs/Room.antt` under the name
--- that stands beside it.
+-- octets, line feed included"), the longest line that is really given, and that each reads back. Each statement is proved in
+-- `proofs/Room.antt` under the name that stands beside it.
 use mathlib.Core.Path.{_≡_}
 use mathlib.Core.Logic.{_⊎_}
+use mathlib.Core.Bool.{true}
 use mathlib.Core.List.{List, [], _∷_}
 use Prim.Native.Nat.{ℕ, _≤_, _<_}
-use lib.ListN.{length}
+use lib.ListN.{length, getD}
 use Rattle.table.specs.declared.Table.{Table}
-use Rattle.table.specs.Places.{noPlace, noConnection, noInvoke, emptyTable, recordAt, placeCount}
+use Rattle.table.specs.Places.{noPlace, noConnection, noInvoke, emptyTable, recordAt, placeCount, callOctets}
 use Rattle.events.specs.declared.Event.{Event}
 use Rattle.events.specs.declared.Answer.{Answer}
 use Rattle.events.specs.declared.message.Sent.{Sent}
@@ -15,19 +16,19 @@ use Rattle.step.specs.Step.{stepOf}
 use Rattle.step.specs.Edges.{callNo}
 use Rattle.step.specs.Promises.{Full}
 use Rattle.lines.specs.EventLine.{eventOf}
-use Rattle.lines.specs.AnswerLine.{answerLine, answerRoom}
+use Rattle.lines.specs.AnswerLine.{readAnswer, answerText, answerLine, answerRoom}
 
 -- ---- what the types say, as far as it goes into an answer
 
 -- of a table: 96 places, calls of 16 octets, connections of 16 bits
 pub record TypedTable (t : Table) : Type 0 where
   pub size : Full t
-  pub call : (i : ℕ) → i < placeCount → length (recordAt t i .call) ≡ 16
+  pub call : (i : ℕ) → i < placeCount → length (recordAt t i .call) ≡ callOctets
   pub connection : (i : ℕ) → i < placeCount → recordAt t i .connection .0 ≤ 65535
 
 -- of an event
 pub record TypedEvent (e : Event) : Type 0 where
-  pub call : length (e .call) ≡ 16
+  pub call : length (e .call) ≡ callOctets
   pub connection : e .connection .0 ≤ 65535
 
 -- ---- the room
@@ -85,3 +86,12 @@ longestRun =
 -- `longest-given`: from the empty table. The program `longest` runs the same events.
 abbrev pub LongestGiven : Type 0
 LongestGiven = lengthsFrom emptyTable longestRun ≡ 60 ∷ 60 ∷ longest ∷ 60 ∷ longest ∷ []
+
+-- ---- that the line of an answer reads back as it
+
+-- `answers-read`: of every table and event, refused ones and unsound tables too; of the calls it asks besides that their octets are below 256
+abbrev pub AnswersRead : Type 0
+AnswersRead =
+    (t : Table) (e : Event) → TypedTable t → TypedEvent e
+    → ((i : ℕ) → i < placeCount → (j : ℕ) → getD (recordAt t i .call) j 0 < 256) → ((j : ℕ) → getD (e .call) j 0 < 256)
+    → readAnswer (answerText (stepOf t e .answer)) ≡ record { good = true; answer = stepOf t e .answer }

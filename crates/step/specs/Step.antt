@@ -35,6 +35,6 @@ carriedOut k t e (To i) = placed t i (actedBy k e i (recordAt t i))
 abbrev pub stepAny : Table → Event → Step
 stepAny t e = carriedOut (ruleOf (e .kind)) t e (aim (ruleOf (e .kind)) t e)
 
--- THE STEP. "25: .. table not sound", before 1 to 10
+-- THE STEP. "25: .. table not sound", before 1 to 12
 abbrev pub stepOf : Table → Event → Step
 stepOf t e = cond (isSound t) (stepAny t e) (refusedBy t e TableUnsound)

@@ -1,6 +1,5 @@
 -- By what the description says of the field.
 use mathlib.Core.Path.{sym, ap, _∙_}
-use Prim.Native.Nat.{_-_}
 use lib.ListN.{length}
 use Rattle.table.specs.Places.{noCall}
 use Rattle.fields.proofs.Texts.{text-call, text-number}

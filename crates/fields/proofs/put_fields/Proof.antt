@@ -7,7 +7,7 @@ use lib.ListN.{length, drop, getD, length-set}
 use lib.Seq.{sets}
 use Rattle.laws.proofs.Runs.{sets-length}
 use Rattle.fields.specs.Line.{text, lineFrom}
-use Rattle.fields.proofs.Texts.{line-last, line-long, step-written}
+use Rattle.fields.proofs.Texts.{line-last, length-step, step-written}
 use borrow.Author.Needs.{needs}
 use Rattle.fields.proofs.put_fields.Statement.{statement}
 use Rattle.fields.proofs.put_fields.Tie as tie
@@ -24,7 +24,7 @@ abbrev At : Type 0
 At = tie.At-loop Inv-loop μ-loop
 
 abbrev most : At → List ℕ
-most at = at .before .before .before .args .most .now
+most at = at .before .before .before .args .description .now
 
 abbrev values : At → List ℕ
 values at = at .before .before .before .args .t3
@@ -59,19 +59,19 @@ array-read-put-field c = search needs
 put-field-requires : tie.Need-put-field-requires Inv-loop μ-loop
 put-field-requires c κs =
     let at = c .before .before .before in
-    omega (arith, line-long (most at) (values at) (call at) (at .loop .i) (omega arith))
+    omega (arith, length-step (most at) (values at) (call at) (at .loop .i) (omega arith))
 
 slice-write-out : tie.Need-slice-write-out Inv-loop μ-loop
 slice-write-out c =
     let p = c .before .before in
     let at = p .before .before .before .before in
-    omega (arith, line-long (most at) (values at) (call at) (at .loop .i) (omega arith), p .put-field .ensures .0)
+    omega (arith, length-step (most at) (values at) (call at) (at .loop .i) (omega arith), p .put-field .ensures .0)
 
 add-p : tie.Need-add-p Inv-loop μ-loop
 add-p c =
     let p = c .before .before in
     let at = p .before .before .before .before in
-    omega (arith, line-long (most at) (values at) (call at) (at .loop .i) (omega arith), p .put-field .ensures .0)
+    omega (arith, length-step (most at) (values at) (call at) (at .loop .i) (omega arith), p .put-field .ensures .0)
 
 add-i : tie.Need-add-i Inv-loop μ-loop
 add-i c = search needs
@@ -87,7 +87,7 @@ loop-again c =
     let field = text (getD (most at) i 0) (getD (values at) i 0) (call at) in (
       omega arith,
       simp length-set (sets-length (at .loop .out) (p .put-field .last .0) field (at .loop .p) (p .put-field .ensures .1) ∙ at .loop .inv .1),
-      omega (arith, line-long (most at) (values at) (call at) i (omega arith), p .put-field .ensures .0),
+      omega (arith, length-step (most at) (values at) (call at) i (omega arith), p .put-field .ensures .0),
       step-written (most at) (values at) (call at) i (at .loop .out) (p .put-field .last .0) (at .loop .p) (p .put-field .result) (omega arith)
           (p .put-field .ensures .0) (p .put-field .ensures .1)
           ∙ at .loop .inv .3,

@@ -6,7 +6,7 @@ use native.Mathlib.Omega.{arith}
 use lib.ListN.{length, drop, getD}
 use Rattle.table.specs.Places.{noCall}
 use Rattle.fields.specs.Line.{text, lineFrom}
-use Rattle.fields.proofs.Texts.{text-few, line-long, line-last}
+use Rattle.fields.proofs.Texts.{text-few, length-step, line-last}
 use borrow.Author.Needs.{needs}
 use Rattle.fields.proofs.sum_lengths.Statement.{statement}
 use Rattle.fields.proofs.sum_lengths.Tie as tie
@@ -21,7 +21,7 @@ abbrev At : Type 0
 At = tie.At-loop Inv-loop μ-loop
 
 abbrev most : At → List ℕ
-most at = at .before .before .args .most .now
+most at = at .before .before .args .description .now
 
 abbrev values : At → List ℕ
 values at = at .before .before .args .t2
@@ -72,7 +72,7 @@ loop-again c =
     let i = at .loop .i in (
       omega arith,
       omega (arith, c .field-length .ensures, few at i),
-      omega (arith, c .field-length .ensures, line-long (most at) (values at) noCall i (omega arith)),
+      omega (arith, c .field-length .ensures, length-step (most at) (values at) noCall i (omega arith)),
     )
 
 mul-field-length-3 : tie.Need-mul-field-length-3 Inv-loop μ-loop

@@ -13,7 +13,7 @@ use Rattle.fields.specs.Parts.{before, tabs}
 use Rattle.table.specs.Places.{noCall}
 use Rattle.fields.specs.Calls.{callOf}
 use Rattle.fields.specs.Numbers.{numberOf}
-use Rattle.fields.specs.Line.{noValues, walk}
+use Rattle.fields.specs.Line.{mostFields, noValues, walk}
 use Rattle.fields.proofs.NumberLaws.{number-most}
 use Rattle.fields.proofs.PartLaws.{before-within}
 use Rattle.fields.proofs.Walk.{call-bad, number-bad, call-good, number-good, walk-end, tab-on}
@@ -22,7 +22,7 @@ use Rattle.fields.proofs.walk_fields.Tie as tie
 
 abbrev Inv-loop : tie.InvT-loop
 Inv-loop line most values₀ call₀ at₀ i₀ values call at i =
-    (i ≤ length most) × (length values ≡ 14) × (i < length most → (at ≤ length line) × (tabs (drop at line) + (i + 1) ≡ length most))
+    (i ≤ length most) × (length values ≡ mostFields) × (i < length most → (at ≤ length line) × (tabs (drop at line) + (i + 1) ≡ length most))
     × (walk (drop i most) i (drop at line) values call ≡ walk most 0 line noValues noCall)
 
 abbrev μ-loop : tie.MeasureT-loop
@@ -57,7 +57,7 @@ abbrev line : Seen → List ℕ
 line k = At k .before .before .before .args .line .now
 
 abbrev most : Seen → List ℕ
-most k = At k .before .before .before .args .most .now
+most k = At k .before .before .before .args .description .now
 
 within : (k : Seen) → At k .loop .i < length (most k)
 within k = k .before .before .before .loop-test .taken
@@ -189,7 +189,7 @@ returns-3 : tie.Need-returns-3 Inv-loop μ-loop
 returns-3 c =
     let at = c .before in
     let a = at .before .before .before .args in
-    sym (walk-end (drop (at .loop .at) (a .line .now)) (a .most .now) (at .loop .values) (at .loop .call) (at .loop .i) (c .loop-test .left)) ∙ at .loop .inv .3
+    sym (walk-end (drop (at .loop .at) (a .line .now)) (a .description .now) (at .loop .values) (at .loop .call) (at .loop .i) (c .loop-test .left)) ∙ at .loop .inv .3
 
 pub walk-fields-spec : {M : Type 1} → statement M
 walk-fields-spec =
