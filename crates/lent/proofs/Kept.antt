@@ -139,7 +139,7 @@ module _ (image : List ℕ) (octets : (k : ℕ) → getD image k 0 < 256) (good 
   pub line-kept : (line : List ℕ) (b : Bool) → eqb (readLine line .number) 0 ≡ b
       → (cond b (eventAnswer image (readLine line .event)) (saying (readLine line .number) NoMessage) ≡ stepOn image line .answer)
       × (cond b (eventImage image (readLine line .event)) image ≡ leftOn image line)
-  line-kept line b said = rw good (by (readLine line) b said (read-ranged line .call))
+  line-kept line b said = rw good (by (readLine line) b said (read-ranged line .event .call .long))
     where
       by : (r : ReadEvent) (b : Bool) → eqb (r .number) 0 ≡ b → length (r .event .call) ≡ 16
           → (cond b (eventAnswer image (r .event)) (saying (r .number) NoMessage) ≡ stepRead held r .answer)

@@ -30,7 +30,7 @@ line-short t line typed = by (readLine line) (read-ranged line)
     by r x = on (eqb (r .number) 0) refl
       where
         on : (b : Bool) → eqb (r .number) 0 ≡ b → length (answerLine (stepRead t r .answer)) ≤ longest
-        on true q = rw q (none-longer t (r .event) typed (record { call = x .call; connection = x .connection }))
+        on true q = rw q (none-longer t (r .event) typed (record { call = x .event .call .long; connection = x .event .connection }))
         on false q = rw q (number-short (r .number) (omega (arith, x .number)))
 
 -- two octets are a number of 16 bits

@@ -41,7 +41,7 @@ module _ (t : Table) (g : Good t) (e : Event) (given : length (e .call) ≡ 16) 
 
 module _ (t : Table) (g : Good t) (line : List ℕ) where
   pub line-good : Good (lineStep t line .table)
-  line-good = by (readLine line) (eqb (readLine line .number) 0) (read-ranged line .call)
+  line-good = by (readLine line) (eqb (readLine line .number) 0) (read-ranged line .event .call .long)
     where
       by : (r : ReadEvent) (b : Bool) → length (r .event .call) ≡ 16
           → Good (cond b (stepOf t (r .event)) (record { table = t; answer = saying (r .number) NoMessage }) .table)
