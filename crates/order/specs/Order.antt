@@ -86,13 +86,11 @@ module _ (t : Table) (e : Event) where
   abbrev pub byChoice0 : Bool
   byChoice0 = isPickup && eqb (e .choice) 0
 
-  -- THE TABLE OF REFUSALS
-  abbrev pub rows : List Row
-  rows =
-      -- table not sound
-      row 25 (not (isSound t))
+  -- THE TABLE OF REFUSALS, from 1 on
+  abbrev pub eventRows : List Row
+  eventRows =
       -- kind not 1 to 10
-      ∷ row 1 (not (leb 1 (e .kind) && leb (e .kind) 10))
+      row 1 (not (leb 1 (e .kind) && leb (e .kind) 10))
       -- kinds 3, 4: choice above 2; kind 10: timer not 3, 6 or 9
       ∷ row 2 (isPickup && ltb 2 (e .choice) || isKind 10 && not (isTimer (e .timer)))
       -- kinds 1, 2: call already in the table
@@ -114,6 +112,13 @@ module _ (t : Table) (e : Event) where
       -- kind 10: that timer is not running
       ∷ row 10 (isKind 10 && not (runs (timerSet (sideFound held) state) (e .timer)))
       ∷ []
+
+  -- .. and of an event at a table
+  abbrev pub rows : List Row
+  rows =
+      -- table not sound
+      row 25 (not (isSound t))
+      ∷ eventRows
 
 -- `in-order`: the number of an answer is that of the first row that holds, or 0
 abbrev pub InOrder : Type 0

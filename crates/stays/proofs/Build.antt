@@ -9,21 +9,9 @@ use native.Mathlib.Decide.{ℕ-discrete}
 use lib.ListN.{length, getD, set, replicate}
 use lib.Seq.{getD-set-same, getD-set-other, ext-getD, append-snoc}
 use Rattle.stays.specs.Stays.{In, placesOf, Done, Machine, Replays, stop, Stay, Stays, joined, eventsOf, stayByStay}
+use Rattle.stays.proofs.Places.{dec-in, Distinct}
 use Rattle.stays.proofs.Laws.{Laws}
 use Rattle.stays.proofs.Part.{Part, Whole, embed, embed-whole, getD-free, replays-append, part-inside, within, Elsewhere}
-
-pub dec-in : (j : ℕ) (ps : List ℕ) → Dec (In j ps)
-dec-in j [] = no (λ h. h)
-dec-in j (p ∷ ps) = either (ℕ-discrete j p) (dec-in j ps)
-  where
-    either : Dec (j ≡ p) → Dec (In j ps) → Dec ((j ≡ p) ⊎ In j ps)
-    either (yes e) d = yes (inl e)
-    either (no n) (yes i) = yes (inr i)
-    either (no n) (no k) = no (elim [ inl e ↦ n e | inr i ↦ k i ])
-
-abbrev pub Distinct : List ℕ → Type 0
-Distinct [] = Unit {0}
-Distinct (p ∷ ps) = (¬ In p ps) × Distinct ps
 
 module _ (m : Machine) (l : Laws m) where
   open Machine m using (Table, Event, Answer, empty)

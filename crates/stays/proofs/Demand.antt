@@ -1,26 +1,19 @@
--- THE THEOREMS of `specs/Demand.antt`, by their names there. The first three hold of every machine that keeps the laws, and so of
--- the table; the next three are proved in `EachStay`, `Requester` and `Fair`, and the last is computed.
-use mathlib.Core.Path.{refl}
+-- THE THEOREMS of `specs/Demand.antt`, by their names there. The last is computed.
+use mathlib.Core.Path.{_≡_, refl, sym, ap, _∙_}
+use mathlib.Core.List.{map}
+use native.Mathlib.Decide.{ℕ-discrete}
 use Rattle.laws.specs.Lists.{below}
-use Rattle.stays.specs.ParkTable.{machine}
-use Rattle.stays.specs.Demand.{ReplaysByStay, HasSameEvents, HasOneResult, StaysInOrder}
-use Rattle.stays.proofs.Keep as Keep
-use Rattle.stays.proofs.Once as Once
-use Rattle.stays.proofs.Same as Same
-use Rattle.stays.proofs.TableLaws.{laws}
+use Rattle.table.specs.Ranks.{earliest, closedUp}
+use Rattle.stays.specs.Arranged.{Arrangement}
+use Rattle.stays.specs.Demand.{Act, exampleRun, told, WorkedOut}
+use Rattle.stays.proofs.Arranged.{made, is-arranged}
+pub use Rattle.stays.proofs.Arranged.{rearranged, same-stays}
 pub use Rattle.stays.proofs.EachStay.{each-stay}
 pub use Rattle.stays.proofs.Requester.{tells-requester}
 pub use Rattle.stays.proofs.Fair.{serves-first}
 
-pub rearranges : ReplaysByStay
-rearranges = Keep.rearranges machine laws
-
-pub same-events : HasSameEvents
-same-events = Same.same-events machine laws
-
-pub one-result : HasOneResult
-one-result = Once.one-result machine laws
-
-pub stays-in-order : StaysInOrder
-unfolding below
-stays-in-order = refl
+pub worked-out : WorkedOut
+unfolding below earliest closedUp ℕ-discrete
+worked-out r =
+    let same : r .stays ≡ made exampleRun = sym (r .only (made exampleRun) (is-arranged exampleRun)) in
+    (ap (λ (a : Arrangement Act). map (map told) (a .ended)) same, ap (λ (a : Arrangement Act). map (map told) (a .running)) same)

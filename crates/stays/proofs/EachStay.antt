@@ -24,13 +24,14 @@ use Rattle.stays.specs.Demand.{Act, staysOf, IsStart, Begins, OfStay, Fr
 use Rattle.stays.proofs.Part.{Part, begun, onward, Whole, whole}
 use Rattle.stays.proofs.Build.{Opens}
 use Rattle.stays.proofs.Keep.{inv-all}
-use Rattle.stays.proofs.Every.{every-append, every-ended}
+use Rattle.stays.proofs.Lists.{every-append}
+use Rattle.stays.proofs.Every.{every-ended}
 use Rattle.stays.proofs.Turned.{Turned, opened, closed, carried, starts≢goes, starts≢ends, start-mark, at-start, at-going}
 use Rattle.stays.proofs.TableLaws.{laws}
 
 -- ---- lists that grow at their end
 
-begins-snoc : (xs : List Act) (x : Act) → Begins xs → (IsStart x → ⊥) → Begins (xs ++ (x ∷ []))
+pub begins-snoc : (xs : List Act) (x : Act) → Begins xs → (IsStart x → ⊥) → Begins (xs ++ (x ∷ []))
 begins-snoc [] x b n = absurd b
 begins-snoc (y ∷ xs) x b n = (b .0, every-append (λ z. IsStart z → ⊥) xs (x ∷ []) (b .1) (n, tt))
 

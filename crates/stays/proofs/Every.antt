@@ -3,14 +3,11 @@
 use mathlib.Core.List.{List, [], _∷_, _++_, map}
 use Prim.Native.Nat.{ℕ}
 use Rattle.stays.specs.Stays.{Done, Machine, Stay, Stays, Every, none, run, stays, allStays}
+use Rattle.stays.proofs.Lists.{every-append}
 use Rattle.stays.proofs.Laws.{Laws}
 use Rattle.stays.proofs.Part.{Part, Whole}
 use Rattle.stays.proofs.Build.{Opens, Wholes}
 use Rattle.stays.proofs.Keep.{inv-all}
-
-pub every-append : {X : Type 0} (P : X → Type 0) (xs ys : List X) → Every P xs → Every P ys → Every P (xs ++ ys)
-every-append P [] ys h k = k
-every-append P (x ∷ xs) ys h k = (h .0, every-append P xs ys (h .1) k)
 
 module _ (m : Machine) (l : Laws m) where
   open Machine m using (Event, Answer, empty)

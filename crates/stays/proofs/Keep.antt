@@ -9,88 +9,11 @@ use native.Mathlib.Decide.{ℕ-discrete}
 use lib.ListN.{length, getD, set, replicate}
 use lib.Seq.{getD-set-same, getD-set-other}
 use Rattle.stays.specs.Stays.{In, placesOf, Mark, starts, goes-on, ends, Done, Machine, done, whether, Stay, Stays, longer, others, eventsAt, add, none, keep, final, run, stays, Rearranges}
-use Rattle.stays.proofs.Laws.{Laws, arrange, without}
+use Rattle.stays.proofs.Places.{dec-in, arrange, without, in-last, in-left, in-other, distinct-snoc, distinct-without, places-snoc, places-longer, places-others, Allowed, Follows}
+use Rattle.stays.proofs.Numbers.{places-added}
+use Rattle.stays.proofs.Laws.{Laws}
 use Rattle.stays.proofs.Part.{begun, onward, Whole, whole, within, getD-free}
-use Rattle.stays.proofs.Build.{dec-in, Distinct, Stands, Opens, Wholes, Inv, replayed}
-
--- ---- places
-
-pub in-snoc : (j p : ℕ) (ps : List ℕ) → In j (ps ++ (p ∷ [])) → In j ps ⊎ (j ≡ p)
-in-snoc j p [] (inl e) = inr e
-in-snoc j p [] (inr b) = absurd b
-in-snoc j p (q ∷ ps) (inl e) = inl (inl e)
-in-snoc j p (q ∷ ps) (inr i) = further (in-snoc j p ps i)
-  where
-    further : In j ps ⊎ (j ≡ p) → In j (q ∷ ps) ⊎ (j ≡ p)
-    further (inl h) = inl (inr h)
-    further (inr e) = inr e
-
-pub in-left : (j p : ℕ) (ps : List ℕ) → In j ps → In j (ps ++ (p ∷ []))
-in-left j p [] b = absurd b
-in-left j p (q ∷ ps) (inl e) = inl e
-in-left j p (q ∷ ps) (inr i) = inr (in-left j p ps i)
-
-pub in-last : (j p : ℕ) (ps : List ℕ) → j ≡ p → In j (ps ++ (p ∷ []))
-in-last j p [] e = inl e
-in-last j p (q ∷ ps) e = inr (in-last j p ps e)
-
-pub distinct-snoc : (p : ℕ) (ps : List ℕ) → Distinct ps → ¬ In p ps → Distinct (ps ++ (p ∷ []))
-distinct-snoc p [] d n = ((λ h. h), tt)
-distinct-snoc p (q ∷ ps) d n = (λ i. apart (in-snoc q p ps i), distinct-snoc p ps (d .1) (λ i. n (inr i)))
-  where
-    apart : In q ps ⊎ (q ≡ p) → ⊥
-    apart (inl i) = d .0 i
-    apart (inr e) = n (inl (sym e))
-
-pub in-without : (j p : ℕ) (ps : List ℕ) → In j (without p ps) → In j ps
-in-without j p [] b = b
-in-without j p (q ∷ ps) i = by (ℕ-discrete p q) i (in-without j p ps)
-  where
-    by : (d : Dec (p ≡ q)) → In j (whether d (without p ps) (q ∷ without p ps)) → (In j (without p ps) → In j ps) → In j (q ∷ ps)
-    by (yes e) h rec = inr (rec h)
-    by (no n) (inl e) rec = inl e
-    by (no n) (inr h) rec = inr (rec h)
-
-pub in-other : (j p : ℕ) (ps : List ℕ) → In j ps → j ≢ p → In j (without p ps)
-in-other j p [] b n = b
-in-other j p (q ∷ ps) i n = by (ℕ-discrete p q) i (in-other j p ps)
-  where
-    by : (d : Dec (p ≡ q)) → In j (q ∷ ps) → (In j ps → j ≢ p → In j (without p ps)) → In j (whether d (without p ps) (q ∷ without p ps))
-    by (yes e) (inl f) rec = absurd (n (f ∙ sym e))
-    by (yes e) (inr h) rec = rec h n
-    by (no k) (inl f) rec = inl f
-    by (no k) (inr h) rec = inr (rec h n)
-
-pub distinct-without : (p : ℕ) (ps : List ℕ) → Distinct ps → Distinct (without p ps)
-distinct-without p [] d = d
-distinct-without p (q ∷ ps) d = by (ℕ-discrete p q) (distinct-without p ps (d .1))
-  where
-    by : (e : Dec (p ≡ q)) → Distinct (without p ps) → Distinct (whether e (without p ps) (q ∷ without p ps))
-    by (yes e) rec = rec
-    by (no n) rec = ((λ i. d .0 (in-without q p ps i)), rec)
-
-module _ {X : Type 0} where
-  places-snoc : (ss : List (Stay X)) (s : Stay X) → placesOf (ss ++ (s ∷ [])) ≡ placesOf ss ++ (s .at ∷ [])
-  places-snoc [] s = refl
-  places-snoc (r ∷ ss) s = ap (λ ps. r .at ∷ ps) (places-snoc ss s)
-
-  places-longer : (p : ℕ) (x : X) (ss : List (Stay X)) → placesOf (map (longer p x) ss) ≡ placesOf ss
-  places-longer p x [] = refl
-  places-longer p x (s ∷ ss) = by (ℕ-discrete p (s .at)) (places-longer p x ss)
-    where
-      by : (d : Dec (p ≡ s .at)) → placesOf (map (longer p x) ss) ≡ placesOf ss
-          → placesOf (whether d (record { at = s .at; events = s .events ++ (x ∷ []) }) s ∷ map (longer p x) ss) ≡ s .at ∷ placesOf ss
-      by (yes e) rec = ap (λ ps. s .at ∷ ps) rec
-      by (no n) rec = ap (λ ps. s .at ∷ ps) rec
-
-  places-others : (p : ℕ) (ss : List (Stay X)) → placesOf (others p ss) ≡ without p (placesOf ss)
-  places-others p [] = refl
-  places-others p (s ∷ ss) = by (ℕ-discrete p (s .at)) (places-others p ss)
-    where
-      by : (d : Dec (p ≡ s .at)) → placesOf (others p ss) ≡ without p (placesOf ss)
-          → placesOf (whether d (others p ss) (s ∷ others p ss)) ≡ whether d (without p (placesOf ss)) (s .at ∷ without p (placesOf ss))
-      by (yes e) rec = rec
-      by (no n) rec = ap (λ ps. s .at ∷ ps) rec
+use Rattle.stays.proofs.Build.{Stands, Opens, Wholes, Inv, replayed}
 
 -- ---- the invariant
 
@@ -177,17 +100,26 @@ module _ (m : Machine) (l : Laws m) where
         by (yes e) (inr f) = rw e (same ∙ f)
         by (no k) a = other j k ∙ v .rest j (λ i. n (kept j k i))
 
+    -- a stay starts where none runs
+    fresh : mark x ≡ starts → ¬ In p (placesOf (s .running))
+    fresh k i = let st = stand-at (v .cores) p (s .running) (v .opens) i in free-holds (st .whose) (rw (at-start turn k .0) at (st .holds))
+
+    -- an event may come where it comes
+    allowed : (k : Mark) → mark x ≡ k → Allowed k p (placesOf (s .running))
+    allowed starts k = fresh k
+    allowed goes-on k = occupied (call x) (at-going turn k .0)
+    allowed ends k = occupied (call x) (at-end turn k .0)
+
     pub inv-starts : {u : Table} → mark x ≡ starts → Shows u (set (v .cores) p r) (arrange starts p (placesOf (s .running))) → Inv m l u (add starts p x s)
     inv-starts k sh =
         let g = at-start turn k in
-        let fresh : ¬ In p (placesOf (s .running)) = λ i. (let st = stand-at (v .cores) p (s .running) (v .opens) i in free-holds (st .whose) (rw (g .0) at (st .holds))) in
         let now : Stands m l (set (v .cores) p r) p (x ∷ []) = record { whose = call x; holds = rw same (g .1); part = rw same (begun (rw (g .0) at turn) k refl) } in
         record {
           cores = set (v .cores) p r;
           shows = rw places-snoc sh;
           wholes = v .wholes;
-          opens = opens-snoc (set (v .cores) p r) (s .running) (record { at = p; events = x ∷ [] }) (opens-other (v .cores) p r (s .running) (v .opens) fresh) now;
-          distinct = rw places-snoc (distinct-snoc p (placesOf (s .running)) (v .distinct) fresh);
+          opens = opens-snoc (set (v .cores) p r) (s .running) (record { at = p; events = x ∷ [] }) (opens-other (v .cores) p r (s .running) (v .opens) (fresh k)) now;
+          distinct = rw places-snoc (distinct-snoc p (placesOf (s .running)) (v .distinct) (fresh k));
           rest = rw places-snoc (rest-after (placesOf (s .running) ++ (p ∷ [])) (inl (in-last p p (placesOf (s .running)) refl)) (λ j n i. in-left j p (placesOf (s .running)) i));
         }
 
@@ -238,6 +170,22 @@ module _ (m : Machine) (l : Laws m) where
       by true k rec = rec (add (mark (done m t e)) (place (done m t e)) (done m t e) s) (inv-taken v e k)
       by false k rec = rec s (rw (refused (v .shows) e k) v)
 
+  -- along a run, each accepted event may come where it comes
+  follows-run : {t : Table} {s : Stays (Done Event Answer)} → Inv m l t s → (es : List Event) → Follows mark place (placesOf (s .running)) (run m t es)
+  follows-run v [] = tt
+  follows-run {t} {s} v (e ∷ es) = by (accepted (answer t e)) refl (λ s′ w. follows-run w es)
+    where
+      x : Done Event Answer
+      x = done m t e
+
+      by : (b : Bool) → accepted (answer t e) ≡ b → ((s′ : Stays (Done Event Answer)) → Inv m l (next t e) s′ → Follows mark place (placesOf (s′ .running)) (run m (next t e) es))
+          → Follows mark place (placesOf (s .running)) (keep b x (run m (next t e) es))
+      by true k rec = (
+        allowed v (taken (v .shows) e k .1) (mark x) refl,
+        subst (λ ps. Follows mark place ps (run m (next t e) es)) (places-added (mark x) (place x) x s) (rec (add (mark x) (place x) x s) (inv-taken v e k)),
+      )
+      by false k rec = rec s (rw (refused (v .shows) e k) v)
+
   pub inv-none : Inv m l empty none
   inv-none = record {
     cores = replicate size free;
@@ -250,6 +198,9 @@ module _ (m : Machine) (l : Laws m) where
 
   pub inv-all : (es : List Event) → Inv m l (final m empty es) (stays m none (run m empty es))
   inv-all es = inv-run inv-none es
+
+  pub follows-all : (es : List Event) → Follows mark place [] (run m empty es)
+  follows-all es = follows-run inv-none es
 
   -- THE THEOREM, first part
   pub rearranges : Rearranges m

@@ -4,22 +4,11 @@
 use mathlib.Core.Path.{_≡_}
 use mathlib.Core.Logic.{_≢_}
 use mathlib.Core.Bool.{true, false}
-use mathlib.Core.List.{List, [], _∷_, _++_}
+use mathlib.Core.List.{List, []}
 use Prim.Native.Nat.{ℕ, _<_}
-use native.Mathlib.Decide.{ℕ-discrete}
 use lib.ListN.{length, getD, set, replicate}
-use Rattle.stays.specs.Stays.{Mark, starts, goes-on, ends, Done, Machine, done, whether}
-
--- the places without this one
-abbrev pub without : ℕ → List ℕ → List ℕ
-without p [] = []
-without p (q ∷ qs) = whether (ℕ-discrete p q) (without p qs) (q ∷ without p qs)
-
--- the places in use, in the order of their starts, after an event at `p`
-abbrev pub arrange : Mark → ℕ → List ℕ → List ℕ
-arrange starts p o = o ++ (p ∷ [])
-arrange goes-on p o = o
-arrange ends p o = without p o
+use Rattle.stays.specs.Stays.{starts, goes-on, ends, Done, Machine, done}
+use Rattle.stays.proofs.Places.{arrange}
 
 pub record Laws (m : Machine) : Type 1 where
   -- ---- one place by itself

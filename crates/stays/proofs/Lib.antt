@@ -1,3 +1,12 @@
+pub mod Lists
+pub mod Places
+pub mod OnlyOne
+pub mod Rising
+pub mod Starts
+pub mod AtPlaces
+pub mod Ends
+pub mod Numbers
+pub mod Forget
 pub mod Laws
 pub mod Part
 pub mod Build
@@ -14,5 +23,6 @@ pub mod TableLaws
 pub mod EachStay
 pub mod Requester
 pub mod Fair
+pub mod Arranged
 pub mod Demand
 pub mod Refusing

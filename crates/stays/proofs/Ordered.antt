@@ -20,11 +20,9 @@ use Rattle.table.proofs.RankLaws.{Drops, drops, keeps, aside, drops-view}
 use Rattle.table.proofs.Keep.{put-size, put-wide, put-here, put-other, calls-put, rank-new, rank-kept, rank-freed, ranks-stay, ranks-drop}
 use Rattle.step.specs.Promises.{Full}
 use Rattle.stays.specs.Stays.{starts, whether, one-if, count, In}
-use Rattle.stays.proofs.Laws.{without}
-use Rattle.stays.proofs.Build.{Distinct}
-use Rattle.stays.proofs.Keep.{in-snoc, in-left, in-last, distinct-snoc, in-without, in-other, distinct-without}
+use Rattle.stays.proofs.Places.{Distinct, without, in-snoc, in-left, in-last, distinct-snoc, in-without, in-other, distinct-without, without-not, gone}
 use Rattle.stays.proofs.Same.{count-snoc}
-use Rattle.stays.proofs.StartRanks.{rank, rank-out, start-other, start-new, end-aside, end-beside, without-not, gone}
+use Rattle.stays.proofs.StartRanks.{rank, rank-out, start-other, start-new, end-aside, end-beside}
 
 -- q is on the side of j
 abbrev pub beside : ℕ → ℕ → Bool

@@ -8,7 +8,8 @@ use native.Mathlib.Decide.{ℕ-discrete}
 use lib.ListN.{length, getD, set, replicate}
 use lib.Seq.{getD-set-same, getD-set-other, set-set, set-getD}
 use Rattle.stays.specs.Stays.{starts, goes-on, ends, Done, Machine, whether, Replays, stop, go}
-use Rattle.stays.proofs.Laws.{Laws, arrange}
+use Rattle.stays.proofs.Places.{arrange}
+use Rattle.stays.proofs.Laws.{Laws}
 
 pub getD-free {ℓ} : {A : Type ℓ} (a : A) (n i : ℕ) → getD (replicate n a) i a ≡ a
 getD-free a zero i = refl

@@ -8,7 +8,8 @@ use native.Mathlib.Omega.{arith}
 use lib.ListN.{getD}
 use Rattle.stays.specs.Stays.{In, placesOf, Mark, starts, goes-on, ends, Done, Machine, Stay, Stays, eventsAt, add, joined, eventsOf, stayByStay, keep, one-if, count, stays, run, done, SameEvents}
 use Rattle.stays.proofs.Laws.{Laws}
-use Rattle.stays.proofs.Build.{Distinct, Inv}
+use Rattle.stays.proofs.Places.{Distinct}
+use Rattle.stays.proofs.Build.{Inv}
 use Rattle.stays.proofs.Keep.{inv-taken, inv-none, occupied}
 use Rattle.stays.proofs.Weights.{ended-weight, running-weight, weight, weight-starts, weight-goes-on, weight-ends}
 

@@ -8,31 +8,12 @@ use Prim.Native.Nat.{ℕ, _<_, suc, _≤_, _+_}
 use native.Mathlib.Decide.{ℕ-discrete}
 use native.Mathlib.Omega.{arith}
 use Rattle.stays.specs.Stays.{whether, one-if, count, In, Before, first, later}
-use Rattle.stays.proofs.Laws.{without}
-use Rattle.stays.proofs.Build.{dec-in, Distinct}
+use Rattle.stays.proofs.Places.{dec-in, Distinct, without, without-not}
 
 -- the rank of `j` in the order `o`, where `n` calls of its side came before: 0 where it is not there
 abbrev pub rank : (ℕ → ℕ → Bool) → ℕ → List ℕ → ℕ → ℕ
 rank same n [] j = 0
 rank same n (q ∷ qs) j = whether (ℕ-discrete j q) (suc n) (rank same (n + one-if (same j q)) qs j)
-
-pub without-not : (p : ℕ) (o : List ℕ) → ¬ In p o → without p o ≡ o
-without-not p [] h = refl
-without-not p (q ∷ qs) h = by (ℕ-discrete p q) (without-not p qs (λ i. h (inr i)))
-  where
-    by : (d : Dec (p ≡ q)) → without p qs ≡ qs → whether d (without p qs) (q ∷ without p qs) ≡ q ∷ qs
-    by (yes e) rec = absurd (h (inl e))
-    by (no k) rec = ap (λ l. q ∷ l) rec
-
--- a place that was taken out is not there
-pub gone : (p : ℕ) (o : List ℕ) → ¬ In p (without p o)
-gone p [] h = h
-gone p (q ∷ qs) h = by (ℕ-discrete p q) h (gone p qs)
-  where
-    by : (d : Dec (p ≡ q)) → In p (whether d (without p qs) (q ∷ without p qs)) → ¬ In p (without p qs) → ⊥
-    by (yes e) x rec = rec x
-    by (no k) (inl e) rec = k e
-    by (no k) (inr x) rec = rec x
 
 module _ (same : ℕ → ℕ → Bool) where
   rank-skip : (n : ℕ) (j q : ℕ) (qs : List ℕ) → j ≢ q → rank same n (q ∷ qs) j ≡ rank same (n + one-if (same j q)) qs j

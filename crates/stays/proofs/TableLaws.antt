@@ -33,7 +33,8 @@ use Rattle.step.proofs.Stepped.{stepped}
 use Rattle.step.proofs.Promises.{keeps-sound, refusal-keeps, accepted-at-one-place}
 use Rattle.stays.specs.Stays.{Mark, starts, goes-on, ends}
 use Rattle.stays.specs.ParkTable.{byAnswer, markBy, machine}
-use Rattle.stays.proofs.Laws.{Laws, arrange}
+use Rattle.stays.proofs.Places.{arrange}
+use Rattle.stays.proofs.Laws.{Laws}
 use Rattle.stays.proofs.Turned.{Turned, inside, agrees, at-start, at-going, at-end, spends, stays-spent, ends-spent}
 use Rattle.stays.proofs.OneTurn.{took, repeats}
 use Rattle.stays.proofs.Ordered.{Ordered, ordered-starts, ordered-goes-on, ordered-ends}

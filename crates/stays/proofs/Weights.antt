@@ -8,7 +8,7 @@ use Prim.Native.Nat.{ℕ, _+_}
 use native.Mathlib.Decide.{ℕ-discrete}
 use native.Mathlib.Omega.{arith}
 use Rattle.stays.specs.Stays.{In, placesOf, starts, goes-on, ends, Stay, Stays, whether, longer, others, eventsAt, add}
-use Rattle.stays.proofs.Build.{Distinct}
+use Rattle.stays.proofs.Places.{Distinct}
 
 module _ {X : Type 0} (g : List X → ℕ) where
   abbrev pub ended-weight : List (List X) → ℕ

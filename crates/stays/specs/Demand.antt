@@ -1,10 +1,23 @@
--- THE DEMAND, stay by stay, on one page: what is promised of every list of events, from the empty table of document 01, with the ranks of document
--- 02's Q-4. Each statement is proved in `proofs/Demand.antt` under the name that stands beside it here. The words are those of `Stays.antt`, at
--- the machine of `ParkTable.antt`.
+-- THE DEMAND, stay by stay, on one page: what is promised of every list of events from the empty table, with the ranks of document 02's Q-4. First
+-- the words of the demand, each with the statement that stands for it; all are proved in `proofs/Demand.antt` under the names in backquotes.
+--
+--   "Rearranged stay by stay,                         `rearranged`: the accepted events of a run, numbered, have one arrangement that meets the
+--                                                     words (`StayByStay`, Arranged.antt), with `Ended` and `Running` below for what a stay is
+--    ended stays first, in order of their ends,       `.by-ends`: the numbers of their last events rise
+--    then open stays in order of their starts,        `.by-starts`: the numbers of their first events rise
+--    a stay's events in their order,                  `.same-at`: at each place the events stand in the order of the run
+--    every accepted event is accepted again           `.again`: the events as they were accepted, each with its call and its place, and a pickup
+--    with the same answer,                            with choice 0 (`byAnswer`, ParkTable.antt), have the answers that they had
+--    and the final table is the same;                 and lead from the empty table to the same table, ranks included
+--    in no stay are two pickup results accepted."     `.one-result`
+--
+-- Then what is promised beyond it: what a stay is like (`each-stay`), who is told how a pickrequ came out (`tells-requester`), who is served first
+-- (`serves-first`). At the end one run is worked out (`worked-out`).
 use mathlib.Core.Path.{_≡_}
 use mathlib.Core.Logic.{_⊎_}
+use mathlib.Core.Bool.{Bool}
 use mathlib.Core.List.{List, [], _∷_, _++_, map}
-use Prim.Native.Nat.{ℕ}
+use Prim.Native.Nat.{ℕ, _≤_}
 use Rattle.table.specs.declared.Place.{Place}
 use Rattle.table.specs.declared.Connection.{Connection}
 use Rattle.table.specs.declared.Side.{Side}
@@ -16,36 +29,22 @@ use Rattle.events.specs.declared.rule.Rule.the-variants.{Start, On}
 use Rattle.events.specs.declared.rule.Signal.the-variants.{PickRequest, PickupResult}
 use Rattle.events.specs.Rule.{ruleOf}
 use Rattle.events.specs.Reply.{replies, RepliesOnce}
-use Rattle.step.specs.Edges.{event}
+use Rattle.step.specs.Edges.{callNo}
 use Rattle.step.specs.Step.{stepOf}
 use Rattle.step.specs.Promises.{IsAccepted, choiceOf, Waits}
-use Rattle.stays.specs.Stays.{In, Before, placesOf, Done, Stays, Every, none, final, run, stays, allStays, stayByStay, Rearranges, SameEvents, OneResult}
+use Rattle.stays.specs.Stays.{In, Before, placesOf, Done, Stay, Stays, Every, BeginsBy, count, none, final, run, stays, Replays, allStays}
+use Rattle.stays.specs.Arranged.{Numbered, Arrangement, acts, allOf, listed, StayByStay}
 use Rattle.stays.specs.ParkTable.{machine}
 
 -- an accepted event, by name, with its answer
 abbrev pub Act : Type 0
 Act = Done Event Answer
 
--- the stays of a run: the ended ones, and the running ones
-abbrev pub staysOf : List Event → Stays Act
-staysOf es = stays machine none (run machine emptyTable es)
+-- the accepted events of a run
+abbrev pub acceptedOf : List Event → List Act
+acceptedOf es = run machine emptyTable es
 
--- ---- (a), (b), (c): the run, rearranged
-
--- `rearranges`: the accepted events, by name, stay by stay, are accepted from the empty table with the same answers, and lead to
--- the same table
-abbrev pub ReplaysByStay : Type 0
-ReplaysByStay = Rearranges machine
-
--- `same-events`: none is lost and none doubled, whatever is counted
-abbrev pub HasSameEvents : Type 0
-HasSameEvents = SameEvents machine
-
--- `one-result`: no stay has two accepted pickup results
-abbrev pub HasOneResult : Type 0
-HasOneResult = OneResult machine
-
--- ---- (d): what a stay is like
+-- ---- (a) what a stay is like
 
 abbrev pub Is : Rule → Act → Type 0
 Is k x = ruleOf (x .event .kind) ≡ k
@@ -56,8 +55,7 @@ IsStart x = (d : Side) × Is (Start d) x
 
 -- the first event is a park or an alert, and no later one is
 abbrev pub Begins : List Act → Type 0
-Begins [] = ⊥
-Begins (x ∷ xs) = IsStart x × Every (λ y. IsStart y → ⊥) xs
+Begins xs = BeginsBy IsStart xs
 
 -- the answer is of this place and this call
 abbrev pub OfStay : Place → List ℕ → Act → Type 0
@@ -85,11 +83,46 @@ pub record Ended (xs : List Act) : Type 0 where
   pub no-start : IsStart last → ⊥
   pub frees : Frees last
 
+-- a stay that runs
+abbrev pub Running : List Act → Type 0
+Running xs = (p : Place) × (call : List ℕ) × Runs p call xs
+
+-- ---- (b) THE DEMAND
+
+-- the stays are those of the run, in the words of the demand
+abbrev pub IsArranged : List Event → Arrangement Act → Type 0
+IsArranged es a = StayByStay (machine .place) Ended Running (acceptedOf es) a
+
+pub record Rearranged (es : List Event) : Type 0 where
+  -- there are stays that meet the words, and no others do
+  pub stays : Arrangement Act
+  pub arranged : IsArranged es stays
+  pub only : (a : Arrangement Act) → IsArranged es a → a ≡ stays
+  -- none of the run's events is lost and none doubled, whatever is counted
+  pub same-events : (f : Act → Bool) → count f (acts (listed stays)) ≡ count f (acceptedOf es)
+  -- from the empty table every event is accepted again with its answer, and the table after them is that of the run
+  pub again : Replays machine emptyTable (acts (listed stays)) (final machine emptyTable es)
+  pub one-result : Every (λ s. count (machine .result) (acts s) ≤ 1) (allOf stays)
+
+-- `rearranged`
+abbrev pub IsRearranged : Type 0
+IsRearranged = (es : List Event) → Rearranged es
+
+-- ---- (c) the same stays by a fold, event by event (Stays.antt), with the place of each that runs
+
+abbrev pub staysOf : List Event → Stays Act
+staysOf es = stays machine none (acceptedOf es)
+
+-- `same-stays`: the fold gives the stays of the demand
+abbrev pub SameStays : Type 0
+SameStays = (es : List Event) (r : Rearranged es)
+    → (map acts (r .stays .ended) ≡ staysOf es .ended) × (map acts (r .stays .running) ≡ map (λ (s : Stay Act). s .events) (staysOf es .running))
+
 -- `each-stay`
 abbrev pub EachStay : Type 0
 EachStay = (es : List Event) → Every Ended (staysOf es .ended) × Every (λ s. (call : List ℕ) × Runs (placeAt (s .at)) call (s .events)) (staysOf es .running)
 
--- ---- (e): who is told how a pickrequ came out
+-- ---- (d) who is told how a pickrequ came out
 
 -- this is the connection of the last pickrequ among the events
 pub data LastRequest : List Act → Connection → Type 0 where
@@ -117,7 +150,7 @@ AllTell before (x ∷ xs) = TellsRequester before x × AllTell (before ++ (x ∷
 abbrev pub TellsItsRequester : Type 0
 TellsItsRequester = (es : List Event) → Every (AllTell []) (allStays machine (staysOf es))
 
--- ---- (f): who is served first (document 02, Q-4)
+-- ---- (e) who is served first (document 02, Q-4)
 
 -- the places of the running stays, in the order in which these began
 abbrev pub runningPlaces : List Event → List ℕ
@@ -136,12 +169,42 @@ abbrev pub ServesFirst : Type 0
 ServesFirst = (es : List Event) (e : Event) (a : Side) → (e .kind ≡ 3) ⊎ (e .kind ≡ 4) → e .choice ≡ choiceOf a
     → IsAccepted (final machine emptyTable es) e → IsFirst es a (stepOf (final machine emptyTable es) e .answer)
 
--- ---- (g): in which order the running stays come
+-- ---- (f) a run, worked out
 
--- a park that proposes 2, and after it one that proposes 1
-abbrev pub twoParks : List Event
-twoParks = event 1 1 2 0 0 ∷ event 1 2 1 0 0 ∷ []
+-- an event of its fields, the call by its number
+abbrev pub given : ℕ → ℕ → ℕ → ℕ → ℕ → ℕ → Event
+given kind call place choice connection invoke = record {
+  kind = kind;
+  call = callNo call;
+  place = record { 0 = place };
+  choice = choice;
+  connection = record { 0 = connection };
+  invoke = record { 0 = invoke };
+  timer = 0;
+}
 
--- `stays-in-order`: the stay that began first comes first, wherever it is
-abbrev pub StaysInOrder : Type 0
-StaysInOrder = map (λ (x : Act). x .answer .place .0) (stayByStay (staysOf twoParks)) ≡ 2 ∷ 1 ∷ []
+-- Call 1 alerts, call 2 is parked, and once more, which is refused. A pickrequ for the longest waiting position gets call 2. Call 3 is parked. The
+-- pickup of call 2 succeeds, and it is released.
+abbrev pub exampleRun : List Event
+exampleRun =
+    given 2 1 0 0 0 0
+    ∷ given 1 2 5 0 0 0
+    ∷ given 1 2 6 0 0 0
+    ∷ given 4 0 0 1 900 0
+    ∷ given 1 3 0 0 0 0
+    ∷ given 5 2 0 0 0 1
+    ∷ given 8 2 0 0 0 0
+    ∷ []
+
+-- an event of an arrangement: its number in the run, and as what it is accepted again
+abbrev pub told : Numbered Act → Numbered Event
+told y = record { number = y .number; act = y .act .event }
+
+abbrev pub nth : ℕ → Event → Numbered Event
+nth n e = record { number = n; act = e }
+
+-- `worked-out`: the stay of call 2 at place 5 has ended; those of call 1 on line 65 and of call 3 at place 1 run
+abbrev pub WorkedOut : Type 0
+WorkedOut = (r : Rearranged exampleRun)
+    → (map (map told) (r .stays .ended) ≡ (nth 2 (given 1 2 5 0 0 0) ∷ nth 3 (given 4 2 5 0 900 0) ∷ nth 5 (given 5 2 5 0 0 1) ∷ nth 6 (given 8 2 5 0 0 0) ∷ []) ∷ [])
+    × (map (map told) (r .stays .running) ≡ (nth 1 (given 2 1 65 0 0 0) ∷ []) ∷ (nth 4 (given 1 3 1 0 0 0) ∷ []) ∷ [])

@@ -68,6 +68,11 @@ module _ {X : Type 0} where
   Every P [] = Unit {0}
   Every P (x ∷ xs) = P x × Every P xs
 
+  -- the first is a start, and no later one is
+  abbrev pub BeginsBy : (X → Type 0) → List X → Type 0
+  BeginsBy Start [] = ⊥
+  BeginsBy Start (x ∷ xs) = Start x × Every (λ y. Start y → ⊥) xs
+
   -- the stay, with one more event if it is at this place
   abbrev pub longer : ℕ → X → Stay X → Stay X
   longer p x s = whether (ℕ-discrete p (s .at)) (record { at = s .at; events = s .events ++ (x ∷ []) }) s
@@ -87,6 +92,10 @@ module _ {X : Type 0} where
   eventsAt p [] = []
   eventsAt p (s ∷ ss) = whether (ℕ-discrete p (s .at)) (s .events) (eventsAt p ss)
 
+  -- An event is added by its mark:
+  -- a start is a new stay, after those that run;
+  -- one that goes on makes the stay at its place longer;
+  -- one that ends it takes the stay at its place, with itself, to the end of those that have ended.
   abbrev pub add : Mark → ℕ → X → Stays X → Stays X
   add starts p x s = record { ended = s .ended; running = s .running ++ (record { at = p; events = x ∷ [] } ∷ []) }
   add goes-on p x s = record { ended = s .ended; running = map (longer p x) (s .running) }
@@ -115,6 +124,11 @@ module _ {X : Type 0} where
   count f [] = 0
   count f (x ∷ xs) = one-if (f x) + count f xs
 
+  -- THE FOLD: each event added to the stays so far, by what it does and where
+  abbrev pub fold : (X → Mark) → (X → ℕ) → Stays X → List X → Stays X
+  fold mark place s [] = s
+  fold mark place s (x ∷ xs) = fold mark place (add (mark x) (place x) x s) xs
+
 -- ---- runs of a machine
 
 module _ (m : Machine) where
@@ -134,8 +148,7 @@ module _ (m : Machine) where
   run t (e ∷ es) = keep (accepted (answer t e)) (done t e) (run (next t e) es)
 
   abbrev pub stays : Stays (Done Event Answer) → List (Done Event Answer) → Stays (Done Event Answer)
-  stays s [] = s
-  stays s (x ∷ xs) = stays (add (mark x) (place x) x s) xs
+  stays s xs = fold mark place s xs
 
   -- from `t` every event is accepted with the answer beside it, and `u` is the table after them
   pub data Replays : Table → List (Done Event Answer) → Table → Type 0 where

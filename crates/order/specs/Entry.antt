@@ -1,0 +1,80 @@
+-- The paper's table of refusals, whole: what `park_step` answers to any image, line and answer buffer (document 01, "Refusal numbers", "Checked in this
+-- order from the top"), row by row, with the sizes that document 02 gave them. Each statement is proved in `proofs/Entry.antt` under the name
+-- that stands beside it.
+use mathlib.Core.Path.{_≡_}
+use mathlib.Core.Bool.{true, false, cond, not, _&&_, _||_}
+use mathlib.Core.List.{List, [], _∷_, _++_}
+use Prim.Native.Nat.{ℕ, zero, suc, _+_, _<_}
+use lib.Dec.{eqb, ltb}
+use lib.ListN.{length}
+use lib.Seq.{sets}
+use Rattle.fields.specs.Parts.{field, tabs}
+use Rattle.fields.specs.Numbers.{decimal}
+use Rattle.lines.specs.EventLine.{longestEvent, readLine}
+use Rattle.lines.specs.BadField.{isGood}
+use Rattle.lines.specs.AnswerLine.{answerRoom}
+use Rattle.image.specs.Image.{imageOctets, placesSound, isSoundImage, tableFrom}
+use Rattle.lent.specs.Lent.{stepOn}
+use Rattle.entry.specs.Entry.{isShort, ParkStep}
+use Rattle.order.specs.Order.{Row, row, firstOf, eventRows}
+
+-- the first field that is bad, of k fields from field i on; 0 where all are good
+abbrev pub firstBadFrom : ℕ → ℕ → List ℕ → ℕ
+firstBadFrom i zero line = 0
+firstBadFrom i (suc k) line = cond (isGood i line) (firstBadFrom (suc i) k line) i
+
+-- of the seven
+abbrev pub firstBad : List ℕ → ℕ
+firstBad line = firstBadFrom 1 7 line
+
+module _ (image line answer : List ℕ) where
+  -- THE TABLE OF REFUSALS, WHOLE
+  abbrev pub entryRows : List Row
+  entryRows =
+      -- answer buffer of the C entry shorter than 61 octets; Q-1: 77
+      row 26 (ltb (length answer) answerRoom)
+      -- image not 2,016 octets; Q-4: 2,112; or table not sound
+      ∷ row 25 (not (eqb (length image) imageOctets) || not (placesSound image))
+      -- line longer than 62 octets, line end not counted
+      ∷ row 21 (ltb longestEvent (length line))
+      -- not exactly seven fields
+      ∷ row 22 (not (eqb (tabs line + 1) 7))
+      -- first bad field is a number; the second is the call
+      ∷ row 23 (not (eqb (firstBad line) 0) && not (eqb (firstBad line) 2))
+      -- first bad field is the call
+      ∷ row 24 (eqb (firstBad line) 2)
+      -- 1 to 12, of the event that the line says and the table that the image says
+      ∷ eventRows (tableFrom image) (readLine line .event)
+
+  -- the number of the answer; 26 has none
+  abbrev pub numberAt : ℕ
+  numberAt = cond (isShort answer) 26 (stepOn image line .answer .number)
+
+-- `entry-in-order`: the number is that of the first row that holds, or 0
+abbrev pub EntryInOrder : Type 0
+EntryInOrder = (image line answer : List ℕ) → numberAt image line answer ≡ firstOf (entryRows image line answer)
+
+-- what comes of a call with this number: with 26 the count is 0 and nothing is written; with any other it is above 0, and a line is written whose
+-- first field is the number
+pub record Comes (number : ℕ) (answer : List ℕ) (count : ℕ) (after : List ℕ) : Type 0 where
+  pub nothing : number ≡ 26 → (count ≡ 0) × (after ≡ answer)
+  pub a-line : (number ≡ 26 → ⊥) → (0 < count) × ((rest : List ℕ) × (after ≡ sets answer 0 (decimal number ++ (9 ∷ rest))))
+
+-- `entry-answers`: of any result that meets the contract of `park_step`. So "0 only with refusal 26"
+abbrev pub EntryAnswers : Type 0
+EntryAnswers = (image line answer : List ℕ) (count : ℕ) (newImage newAnswer : List ℕ) → ParkStep image line answer count newImage newAnswer
+    → Comes (firstOf (entryRows image line answer)) answer count newAnswer
+
+-- ---- what the paper says of lines besides
+
+-- `feed-is-bad`: "a feed inside it makes its field bad": a field with a line feed in it is bad, whichever it is
+abbrev pub FeedIsBad : Type 0
+FeedIsBad = (line : List ℕ) (i : ℕ) (before after : List ℕ) → field i line ≡ before ++ (10 ∷ after) → isGood i line ≡ false
+
+-- `feed-is-refused`: so no line with a feed in it is accepted
+abbrev pub FeedIsRefused : Type 0
+FeedIsRefused = (before after : List ℕ) → readLine (before ++ (10 ∷ after)) .number ≡ 0 → ⊥
+
+-- `empty-is-22`: "An empty line is refused with 22", where neither 26 nor 25 comes first
+abbrev pub EmptyIs22 : Type 0
+EmptyIs22 = (image answer : List ℕ) → isShort answer ≡ false → isSoundImage image ≡ true → numberAt image [] answer ≡ 22
