@@ -14,6 +14,7 @@ use Rattle.table.specs.Ranks.{callsOn, lowered, closedUp, reranked, put}
 use Rattle.table.proofs.RankLaws.{closed-size}
 use Rattle.table.proofs.Keep.{reranked-wide, put-size, put-wide, each}
 use Rattle.image.specs.Image.{Fit, placeStart, rankIndex, octetsOf, imageOf, rerankedIn, placePut}
+use Rattle.image.specs.Round.{PutsInImage, PutFits}
 use Rattle.image.proofs.Round.{table-back, record-written, rank-written, record-image, rank-image}
 
 -- the ranks of two places stand apart
@@ -53,20 +54,19 @@ module _ (t : Table) (f : Fit t) where
         ∙ rank-image (ranked l) (ranked-fit l (closed-wide a (rankAt t i) placeCount)) i inside 0
     reranked-image false false = refl
 
-    module _ (r : Record) (long : length (r .call) ≡ callOctets) where
-      -- A RECORD PUT ANEW IN THE IMAGE IS ONE PUT ANEW IN THE TABLE
-      pub place-put : placePut i r (imageOf t) ≡ imageOf (put t i r)
-      place-put =
-          let b = isFree (recordAt t i .state) in
-          let c = isFree (r .state) in
-          rw (record-written t f i inside)
-          (ap (λ (s : List ℕ). sets s (placeStart i) (octetsOf r)) (reranked-image b c)
-          ∙ record-image (ranked (reranked t i b c)) (ranked-fit (reranked t i b c) (reranked-wide t i (f .wide) b c)) i inside r long)
+-- A RECORD PUT ANEW IN THE IMAGE IS ONE PUT ANEW IN THE TABLE
+pub place-put : PutsInImage
+place-put t f i inside r long =
+    let b = isFree (recordAt t i .state) in
+    let c = isFree (r .state) in
+    rw (record-written t f i inside)
+    (ap (λ (s : List ℕ). sets s (placeStart i) (octetsOf r)) (reranked-image t f i inside b c)
+    ∙ record-image (ranked t f (reranked t i b c)) (ranked-fit t f (reranked t i b c) (reranked-wide t i (f .wide) b c)) i inside r long)
 
-      -- and the table is as the types say
-      pub put-fit : Fit (put t i r)
-      put-fit = record {
-        size = put-size t (f .size) i inside r;
-        wide = put-wide t (f .size) i inside r (f .wide);
-        calls = each t (f .size) i inside r (λ j x. length (x .call) ≡ callOctets) long (f .calls);
-      }
+-- and the table is as the types say
+pub put-fit : PutFits
+put-fit t f i inside r long = record {
+  size = put-size t (f .size) i inside r;
+  wide = put-wide t (f .size) i inside r (f .wide);
+  calls = each t (f .size) i inside r (λ j x. length (x .call) ≡ callOctets) long (f .calls);
+}
