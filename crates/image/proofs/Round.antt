@@ -2,7 +2,7 @@
 -- image, one record or one rank written is one that is set in the table. An image is taken apart at a place (`all-split`), and what stands there is
 -- read from its start.
 use mathlib.Core.Path.{_≡_, refl, sym, ap, ap₂, _∙_}
-use mathlib.Core.Bool.{Bool, true, cond, _&&_}
+use mathlib.Core.Bool.{Bool, cond, _&&_}
 use mathlib.Core.List.{List, [], _∷_, _++_, append-assoc}
 use Prim.Native.Nat.{ℕ, zero, suc, _+_, _*_, _/_, _%_, _≤_, _<_}
 use native.Mathlib.Nat.{zero-add}
@@ -21,7 +21,7 @@ use Rattle.table.specs.Places.{stateNumber, isState, stateOf, placeCount, callO
 use Rattle.table.specs.Sound.{isSound}
 use Rattle.table.proofs.States.{state-below, state-back, number-back}
 use Rattle.image.specs.declared.ReadImage.{ReadImage}
-use Rattle.image.specs.Image.{connectionOffset, countOffset, recordOctets, placeOctets, imageOctets, placeStart, rankIndex, Fit, pairOf, octetsOf, octetsOfAll, imageOf, pairAt, recordFrom, stateOctet, recordIn, rankOctet, tableFrom, statesFit, placesSound, isSoundImage, readImage}
+use Rattle.image.specs.Image.{connectionOffset, countOffset, recordOctets, placeOctets, imageOctets, placeStart, rankIndex, Fit, pairOf, octetsOf, octetsOfAll, imageOf, pairAt, recordFrom, stateOctet, recordIn, rankOctet, tableFrom, statesFit, placesSound, isSoundImage}
 use Rattle.image.specs.Round.{Octets, ImageLength, TableReadsBack, ImageReadsBack, ImageTested, OneImage, TableReadFits, ImageWritesBack}
 use Rattle.image.proofs.Fills.{Calls, length-octets, length-all, front, back, all-with, all-split, front-long}
 

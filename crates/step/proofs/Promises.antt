@@ -45,7 +45,7 @@ use Rattle.events.specs.Sought.{isTimer}
 use Rattle.step.specs.declared.aim.Aim.the-variants.{To, Nowhere}
 use Rattle.events.specs.Rule.{ruleOf}
 use Rattle.events.specs.Turn.{heldRecord, stageOf, greeting, isOutstanding, turnOn, turn}
-use Rattle.table.specs.Ranks.{callsOn, put}
+use Rattle.table.specs.Ranks.{callsOn, changeOf, put}
 use Rattle.step.specs.Aim.{aim, aimAt, aimNamed, aimFor}
 use Rattle.events.specs.Act.{stayCall}
 use Rattle.events.proofs.Released.{error-in-release}
@@ -134,8 +134,8 @@ module _ (t : Table) (all : Full t) (e : Event) where
         stopped = rw (at, here);
       }
     where
-      own-rank : (b : Bool) → isFree (recordAt t i .state) ≡ b → (c : Bool) → isFree (new .state) ≡ c → rankAt (put t i new) i ≡ rankOf b c (callsOn t (sideAt i)) (rankAt t i)
-      own-rank true p true q = absurd (not-both p (left-held (recordAt t i .state) (new .state) move q))
+      own-rank : (b : Bool) → isFree (recordAt t i .state) ≡ b → (c : Bool) → isFree (new .state) ≡ c → rankAt (put t i new) i ≡ rankOf (changeOf b c) (callsOn t (sideAt i)) (rankAt t i)
+      own-rank true p true q = rw (p, q)
       own-rank true p false q = rank-new t size i inside new (all .1) q p
       own-rank false p true q = rank-freed t size i inside new (all .1) p q
       own-rank false p false q = rank-kept t size i inside new (all .1) q p

@@ -18,7 +18,7 @@ use Rattle.table.specs.declared.Table.{Table}
 use Rattle.table.specs.Places.{stateNumber, isFree, waitingOn, placeAt, indexOf, sideAt, noPlace, noConnection, noInvoke, noCall, recordAt, rankAt, positionCount, placeCount}
 use Rattle.table.specs.Timers.{startedSet, stoppedSet}
 use Rattle.table.specs.Search.{holds, isAt}
-use Rattle.table.specs.Ranks.{callsOn, lowered}
+use Rattle.table.specs.Ranks.{callsOn, lowered, Change, comes, goes, neither, changeOf}
 use Rattle.table.specs.Sound.{isSound}
 use Rattle.events.specs.declared.Event.{Event}
 use Rattle.events.specs.declared.Answer.{Answer}
@@ -71,12 +71,11 @@ pub data Move : State → State → Type 0 where
   ends : {before : State} → offered before ≡ true → Move before Free
   is-left : Move HandedOver Free
 
--- the rank of a place that was free or not and is free or not, on a side that had n calls
-abbrev pub rankOf : Bool → Bool → ℕ → ℕ → ℕ
-rankOf true true n rank = 0
-rankOf true false n rank = n + 1
-rankOf false true n rank = 0
-rankOf false false n rank = rank
+-- the rank of a place by what becomes of its call, on a side that had n calls
+abbrev pub rankOf : Change → ℕ → ℕ → ℕ
+rankOf comes n rank = n + 1
+rankOf goes n rank = 0
+rankOf neither n rank = rank
 
 -- the index of the place that the answer names
 abbrev pub indexAt : Step → ℕ
@@ -92,7 +91,8 @@ pub record AtOnePlace (t : Table) (s : Step) : Type 0 where
   pub ranks-drop : isFree (recordAt (s .table) (indexAt s) .state) ≡ true → (j : ℕ) → j < placeCount → (j ≡ indexAt s → ⊥)
       → rankAt (s .table) j ≡ lowered (sideAt (indexAt s)) (rankAt t (indexAt s)) j (rankAt t j)
   -- a call that comes is the last of its side, keeps its rank as long as it is held, and leaves none behind
-  pub rank : rankAt (s .table) (indexAt s) ≡ rankOf (isFree (recordAt t (indexAt s) .state)) (isFree (recordAt (s .table) (indexAt s) .state)) (callsOn t (sideAt (indexAt s))) (rankAt t (indexAt s))
+  pub rank : rankAt (s .table) (indexAt s)
+      ≡ rankOf (changeOf (isFree (recordAt t (indexAt s) .state)) (isFree (recordAt (s .table) (indexAt s) .state))) (callsOn t (sideAt (indexAt s))) (rankAt t (indexAt s))
   -- the answer's state is the one after the event
   pub state : s .answer .state ≡ stateNumber (recordAt (s .table) (indexAt s) .state)
   pub move : Move (recordAt t (indexAt s) .state) (recordAt (s .table) (indexAt s) .state)
