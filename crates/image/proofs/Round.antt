@@ -2,7 +2,7 @@
 -- image, one record or one rank written is one that is set in the table. An image is taken apart at a place (`all-split`), and what stands there is
 -- read from its start.
 use mathlib.Core.Path.{_≡_, refl, sym, ap, ap₂, _∙_}
-use mathlib.Core.Bool.{Bool, true, cond, _&&_}
+use mathlib.Core.Bool.{Bool, cond, _&&_}
 use mathlib.Core.List.{List, [], _∷_, _++_, append-assoc}
 use Prim.Native.Nat.{ℕ, zero, suc, _+_, _*_, _/_, _%_, _≤_, _<_}
 use native.Mathlib.Nat.{zero-add}
@@ -21,7 +21,8 @@ use Rattle.table.specs.Places.{stateNumber, isState, stateOf, placeCount, callO
 use Rattle.table.specs.Sound.{isSound}
 use Rattle.table.proofs.States.{state-below, state-back, number-back}
 use Rattle.image.specs.declared.ReadImage.{ReadImage}
-use Rattle.image.specs.Image.{connectionOffset, countOffset, recordOctets, placeOctets, imageOctets, placeStart, rankIndex, Fit, pairOf, octetsOf, octetsOfAll, imageOf, pairAt, recordFrom, stateOctet, recordIn, rankOctet, tableFrom, statesFit, placesSound, isSoundImage, readImage}
+use Rattle.image.specs.Image.{connectionOffset, countOffset, recordOctets, placeOctets, imageOctets, placeStart, rankIndex, Fit, pairOf, octetsOf, octetsOfAll, imageOf, pairAt, recordFrom, stateOctet, recordIn, rankOctet, tableFrom, statesFit, placesSound, isSoundImage}
+use Rattle.image.specs.Round.{Octets, ImageLength, TableReadsBack, ImageReadsBack, ImageTested, OneImage, TableReadFits, ImageWritesBack}
 use Rattle.image.proofs.Fills.{Calls, length-octets, length-all, front, back, all-with, all-split, front-long}
 
 -- ---- a table that was read
@@ -40,7 +41,7 @@ module _ (s : List ℕ) (i : ℕ) (inside : i < placeCount) where
   rank-at = listed-at (rankOctet s) 0 0 placeCount i inside ∙ ap (rankOctet s) (zero-add i)
 
 -- A TABLE THAT WAS READ FROM AN IMAGE IS AS THE TYPES SAY
-pub fit-from : (s : List ℕ) → length s ≡ imageOctets → Fit (tableFrom s)
+pub fit-from : TableReadFits
 unfolding recordFrom
 fit-from s size = record {
   size = size-from s;
@@ -94,10 +95,6 @@ module _ (t : Table) (f : Fit t) where
 
   beside : length (t .ranks) ≡ length (t .places)
   beside = f .wide ∙ sym (f .size)
-
-  -- AN IMAGE HAS 2,112 OCTETS
-  pub length-image : length (imageOf t) ≡ imageOctets
-  length-image = length-all (t .places) (t .ranks) beside calls ∙ ap (λ (n : ℕ). n * placeOctets) (f .size)
 
   module _ (i : ℕ) (inside : i < placeCount) where
     within : i < length (t .places)
@@ -157,35 +154,39 @@ module _ (t : Table) (f : Fit t) where
         ∙ sym (all-with (t .places) (t .ranks) beside i within (recordAt t i) k)
         ∙ sym (ap₂ octetsOfAll (split-at (t .places) i blank within) (set-split (t .ranks) i k (omega (arith, f .wide))))
 
-  -- the table of its image
-  pub table-back : tableFrom (imageOf t) ≡ t
-  table-back =
-      let s : List ℕ = imageOf t in
-      let places = ext-getD blank (tableFrom s .places) (t .places) (size-from s ∙ sym (f .size)) (λ i h.
-      let inside : i < placeCount = omega (arith, size-from s) in record-at s i inside ∙ record-written i inside) in
-      let ranks = ext-getD 0 (tableFrom s .ranks) (t .ranks) (wide-from s ∙ sym (f .wide)) (λ i h.
-      let inside : i < placeCount = omega (arith, wide-from s) in rank-at s i inside ∙ rank-written i inside) in
-      λ j. record { places = places j; ranks = ranks j }
+-- AN IMAGE HAS 2,112 OCTETS
+pub length-image : ImageLength
+length-image t f = length-all (t .places) (t .ranks) (beside t f) (calls t f) ∙ ap (λ (n : ℕ). n * placeOctets) (f .size)
 
-  -- THE TEST OF ITS IMAGE IS ITS OWN, whether it is sound or not
-  pub test-of-image : placesSound (imageOf t) ≡ isSound t
-  test-of-image =
-      ap₂
-      _&&_
-      (below-make (λ i. isState (stateOctet (imageOf t) i)) placeCount (λ i h. rw (state-written i h) (lt-ltb (stateNumber (recordAt t i .state)) 6 (state-below (recordAt t i .state)))))
-      (ap isSound table-back)
+-- the table of its image
+pub table-back : TableReadsBack
+table-back t f =
+    let s : List ℕ = imageOf t in
+    let places = ext-getD blank (tableFrom s .places) (t .places) (size-from s ∙ sym (f .size)) (λ i h.
+    let inside : i < placeCount = omega (arith, size-from s) in record-at s i inside ∙ record-written t f i inside) in
+    let ranks = ext-getD 0 (tableFrom s .ranks) (t .ranks) (wide-from s ∙ sym (f .wide)) (λ i h.
+    let inside : i < placeCount = omega (arith, wide-from s) in rank-at s i inside ∙ rank-written t f i inside) in
+    λ j. record { places = places j; ranks = ranks j }
 
-  pub image-tested : isSoundImage (imageOf t) ≡ isSound t
-  image-tested = rw (eq-eqb (length (imageOf t)) imageOctets length-image) test-of-image
+-- THE TEST OF ITS IMAGE IS ITS OWN, whether it is sound or not
+pub test-of-image : ImageTested
+test-of-image t f =
+    ap₂
+    _&&_
+    (below-make (λ i. isState (stateOctet (imageOf t) i)) placeCount (λ i h. rw (state-written t f i h) (lt-ltb (stateNumber (recordAt t i .state)) 6 (state-below (recordAt t i .state)))))
+    (ap isSound (table-back t f))
 
-  -- READING WHAT WAS WRITTEN
-  pub image-reads-back : isSound t ≡ true → readImage (imageOf t) ≡ record { number = 0; table = t }
-  image-reads-back h =
-      let made : Table → ReadImage = λ u. record { number = 0; table = u } in
-      ap (λ (b : Bool). cond b (made (tableFrom (imageOf t))) (record { number = 25; table = emptyTable })) (image-tested ∙ h) ∙ ap made table-back
+pub image-tested : (t : Table) → Fit t → isSoundImage (imageOf t) ≡ isSound t
+image-tested t f = rw (eq-eqb (length (imageOf t)) imageOctets (length-image t f)) (test-of-image t f)
+
+-- READING WHAT WAS WRITTEN
+pub image-reads-back : ImageReadsBack
+image-reads-back t f h =
+    let made : Table → ReadImage = λ u. record { number = 0; table = u } in
+    ap (λ (b : Bool). cond b (made (tableFrom (imageOf t))) (record { number = 25; table = emptyTable })) (image-tested t f ∙ h) ∙ ap made (table-back t f)
 
 -- ONE IMAGE, ONE TABLE: soundness is not needed
-pub one-image : (t u : Table) → Fit t → Fit u → imageOf t ≡ imageOf u → t ≡ u
+pub one-image : OneImage
 one-image t u f g e = sym (table-back t f) ∙ ap tableFrom e ∙ table-back u g
 
 -- ---- writing what was read
@@ -207,10 +208,6 @@ four-octets s h =
     ∙ ap
     (λ (l : List ℕ). getD s 18 0 ∷ l)
     (drop-cons s 19 0 (omega arith) ∙ ap (λ (l : List ℕ). getD s 19 0 ∷ l) (drop-cons s 20 0 (omega arith)))))
-
--- each number of a list is an octet
-abbrev pub Octets : List ℕ → Type 0
-Octets s = (k : ℕ) → k < length s → getD s k 0 < 256
 
 record-octets : (s : List ℕ) → recordOctets ≤ length s → Octets s → getD s 0 0 < 6 → octetsOf (recordFrom s 0) ≡ take recordOctets s
 unfolding recordFrom octetsOf
@@ -250,7 +247,7 @@ module _ (s : List ℕ) (o : Octets s) where
       ∙ place-octets i (omega arith) (low i (omega arith))
 
 -- WRITING WHAT WAS READ
-pub image-written-back : (s : List ℕ) → Octets s → isSoundImage s ≡ true → imageOf (tableFrom s) ≡ s
+pub image-written-back : ImageWritesBack
 image-written-back s o h =
     let long = eqb-true (length s) imageOctets (and-left (eqb (length s) imageOctets) (placesSound s) h) in
     let fit = and-left (statesFit s) _ (and-right (eqb (length s) imageOctets) (placesSound s) h) in

@@ -16,7 +16,7 @@ use Rattle.table.proofs.Calls.{same-is, same-self}
 use Rattle.laws.proofs.Runs.{at-step}
 use Rattle.image.specs.Image.{pairAt}
 use Rattle.image.specs.Quick.{lowFirst, runAt}
-use Rattle.image.proofs.Round.{Octets}
+use Rattle.image.specs.Round.{Octets}
 
 -- ---- the number of a list
 

@@ -2,18 +2,19 @@
 -- first."; document 02, Q-4: "The image grows by one octet per place, after the count, to 2,112."): reading and writing it, with refusal 25,
 -- and a record put anew in it. Places are counted from 0 here, as indexes are.
 use mathlib.Core.Path.{_≡_}
-use mathlib.Core.Bool.{Bool, true, false, cond, _&&_}
+use mathlib.Core.Bool.{Bool, cond, _&&_}
 use mathlib.Core.List.{List, [], _∷_, _++_}
-use Prim.Native.Nat.{ℕ, _+_, _*_, _/_, _%_, _<_}
+use Prim.Native.Nat.{ℕ, zero, suc, _+_, _*_, _/_, _%_, _<_}
 use lib.Dec.{eqb}
 use lib.ListN.{length, getD, set, take, drop}
 use lib.Seq.{sets}
 use Rattle.laws.specs.Lists.{below, listed}
+use Rattle.table.specs.declared.Side.{Side}
 use Rattle.table.specs.declared.Record.{Record}
 use Rattle.table.specs.declared.Table.{Table}
 use Rattle.table.specs.Places.{stateNumber, isFree, isState, stateOf, placeCount, sideAt, callOctets, emptyTable, recordAt}
 use Rattle.table.specs.Sound.{isSound}
-use Rattle.table.specs.Ranks.{callsOn, closedUp}
+use Rattle.table.specs.Ranks.{callsOn, lowered, Change, comes, goes, neither, changeOf}
 use Rattle.image.specs.declared.ReadImage.{ReadImage}
 
 -- ---- how large it is
@@ -125,12 +126,16 @@ readImage s = cond (isSoundImage s) (record { number = 0; table = tableFrom s })
 
 -- ---- a record put anew, in an image of the right length: what `put` does to a table, done to its octets
 
--- the image with the ranks that it has when place i, free or not, becomes free or not
-abbrev pub rerankedIn : List ℕ → ℕ → Bool → Bool → List ℕ
-rerankedIn s i true true = s
-rerankedIn s i true false = set s (rankIndex i) (callsOn (tableFrom s) (sideAt i) + 1)
-rerankedIn s i false true = set (closedUp rankIndex (sideAt i) (rankOctet s i) placeCount s) (rankIndex i) 0
-rerankedIn s i false false = s
+-- the rank octets of the first n places lowered, one after the other
+unfoldable pub closedUpIn : Side → ℕ → ℕ → List ℕ → List ℕ
+closedUpIn a k zero s = s
+closedUpIn a k (suc n) s = set (closedUpIn a k n s) (rankIndex n) (lowered a k n (rankOctet s n))
+
+-- the image with the ranks that it has by what becomes of the call at place i
+abbrev pub rerankedIn : List ℕ → ℕ → Change → List ℕ
+rerankedIn s i comes = set s (rankIndex i) (callsOn (tableFrom s) (sideAt i) + 1)
+rerankedIn s i goes = set (closedUpIn (sideAt i) (rankOctet s i) placeCount s) (rankIndex i) 0
+rerankedIn s i neither = s
 
 abbrev pub placePut : ℕ → Record → List ℕ → List ℕ
-placePut i r s = sets (rerankedIn s i (isFree (recordIn s i .state)) (isFree (r .state))) (placeStart i) (octetsOf r)
+placePut i r s = sets (rerankedIn s i (changeOf (isFree (recordIn s i .state)) (isFree (r .state)))) (placeStart i) (octetsOf r)

@@ -21,8 +21,8 @@ use Rattle.events.proofs.Refusals.{refused-not-0}
 use Rattle.events.proofs.RuleLaws.{by-kind}
 use Rattle.step.specs.declared.Step.{Step}
 use Rattle.step.specs.Step.{stepOf}
-use Rattle.step.specs.Promises.{Full, offered, Move, starts, goes-on, hands-over, ends, is-left, AtOnePlace}
-use Rattle.table.proofs.Sides.{place-number, place-index, same-index, less-one}
+use Rattle.step.specs.Promises.{Full, offered, Move, starts, goes-on, hands-over, ends, is-left, indexAt, AtOnePlace}
+use Rattle.table.proofs.Sides.{place-number, place-index, less-one}
 use Rattle.step.proofs.Stepped.{Stepped, kept, begun, ended, went-on, stepped}
 use Rattle.step.proofs.Promises.{refusal-keeps, accepted-at-one-place}
 use Rattle.lamps.specs.declared.members.Indication.the-variants.{On, Off}
@@ -43,7 +43,8 @@ pub record Inside (p : Place) : Type 0 where
 pub accepted-inside : (t : Table) (e : Event) (s : Step) → Full t → s ≡ stepOf t e → s .answer .number ≡ 0 → Inside (s .answer .place)
 accepted-inside t e s full q h =
     let x = accepted-at-one-place t e full (rw q at h) in
-    let number : s .answer .place .0 ≡ x .index + 1 = ap (λ (u : Step). u .answer .place .0) q ∙ ap (λ (p : Place). p .0) (x .place) ∙ place-number (x .index) (x .inside) in
+    let number : s .answer .place .0 ≡ indexAt (stepOf t e) + 1 =
+    ap (λ (u : Step). u .answer .place .0) q ∙ ap (λ (p : Place). p .0) (x .place) ∙ place-number (indexAt (stepOf t e)) (x .inside) in
     record { from-1 = omega arith; to-placeCount = omega (arith, x .inside); index = less-one (s .answer .place .0) (omega arith) }
 
 -- ---- which events start a stay
@@ -60,17 +61,14 @@ kind-starts =
     (λ kind one two. rw (ne-eqb kind 1 one, ne-eqb kind 2 two))
 
 module _ (t : Table) (full : Full t) (e : Event) where
-  starts-at : (s : Step) → Stepped t (full .0) e s → s .answer .number ≡ 0 → (x : AtOnePlace t s) → startsStay (e .kind) ≡ isFree (recordAt t (x .index) .state)
-  starts-at s (kept w) h x = absurd (refused-not-0 w h)
-  starts-at s (begun d i sound rule room) h x =
-      let same : x .index ≡ i = same-index (x .index) i (x .inside) (room .inside) (sym (x .place)) in
-      kind-starts (e .kind) ∙ ap isStart rule ∙ sym (rw same (room .vacant))
-  starts-at s (ended k i first second reached turned) h x =
-      let same : x .index ≡ i = same-index (x .index) i (x .inside) (reached .inside) (sym (x .place)) in
-      kind-starts (e .kind) ∙ ap isStart (reached .rule) ∙ sym (rw same (reached .occupied))
-  starts-at s (went-on k i g n m reached turned) h x =
-      let same : x .index ≡ i = same-index (x .index) i (x .inside) (reached .inside) (sym (x .place)) in
-      kind-starts (e .kind) ∙ ap isStart (reached .rule) ∙ sym (rw same (reached .occupied))
+  starts-at : (s : Step) → Stepped t (full .0) e s → s .answer .number ≡ 0 → startsStay (e .kind) ≡ isFree (recordAt t (indexAt s) .state)
+  starts-at s (kept w) h = absurd (refused-not-0 w h)
+  starts-at s (begun d i sound rule room) h =
+      kind-starts (e .kind) ∙ ap isStart rule ∙ sym (rw (place-index i (room .inside)) (room .vacant))
+  starts-at s (ended k i first second reached turned) h =
+      kind-starts (e .kind) ∙ ap isStart (reached .rule) ∙ sym (rw (place-index i (reached .inside)) (reached .occupied))
+  starts-at s (went-on k i g n m reached turned) h =
+      kind-starts (e .kind) ∙ ap isStart (reached .rule) ∙ sym (rw (place-index i (reached .inside)) (reached .occupied))
 
 -- ---- what each move sends
 
@@ -106,8 +104,8 @@ asks-by-move kind is-left q = rw q
 
 pub data Came (l : Lamps) (t : Table) (e : Event) (s : Step) : Type 0 where
   refused : eqb (s .answer .number) 0 ≡ false → s .table ≡ t → litOf l t e (s .answer) ≡ unlit l → Came l t e s
-  done : (x : AtOnePlace t s) → eqb (s .answer .number) 0 ≡ true → startsStay (e .kind) ≡ isFree (recordAt t (x .index) .state)
-      → litOf l t e (s .answer) ≡ litBy l (x .index) (s .answer) (sends (x .move)) → Came l t e s
+  done : (x : AtOnePlace t s) → eqb (s .answer .number) 0 ≡ true → startsStay (e .kind) ≡ isFree (recordAt t (indexAt s) .state)
+      → litOf l t e (s .answer) ≡ litBy l (indexAt s) (s .answer) (sends (x .move)) → Came l t e s
 
 pub came : (l : Lamps) (t : Table) (e : Event) → Full t → Came l t e (stepOf t e)
 came l t e full = by (eqb (stepOf t e .answer .number) 0) refl
@@ -117,7 +115,6 @@ came l t e full = by (eqb (stepOf t e .answer .number) 0) refl
     by true q =
         let number : stepOf t e .answer .number ≡ 0 = eqb-true (stepOf t e .answer .number) 0 q in
         let x = accepted-at-one-place t e full number in
-        let from = starts-at t full e (stepOf t e) (stepped t (full .0) e) number x in
-        let at : indexOf (stepOf t e .answer .place .0) ≡ x .index = ap (λ (p : Place). indexOf (p .0)) (x .place) ∙ place-index (x .index) (x .inside) in
-        let asks = ap (asksFor (e .kind) (recordAt t (x .index) .state)) (x .state) ∙ asks-by-move (e .kind) (x .move) from in
-        done x q from (rw (q, at) (ap (litBy l (x .index) (stepOf t e .answer)) asks))
+        let from = starts-at t full e (stepOf t e) (stepped t (full .0) e) number in
+        let asks = ap (asksFor (e .kind) (recordAt t (indexAt (stepOf t e)) .state)) (x .state) ∙ asks-by-move (e .kind) (x .move) from in
+        done x q from (rw q (ap (litBy l (indexAt (stepOf t e)) (stepOf t e .answer)) asks))

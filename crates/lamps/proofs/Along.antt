@@ -13,15 +13,14 @@ use Rattle.table.specs.declared.State.{State}
 use Rattle.table.specs.declared.State.the-variants.{HandedOver}
 use Rattle.table.specs.declared.Record.{Record}
 use Rattle.table.specs.declared.Table.{Table}
-use Rattle.table.specs.Places.{stateNumber, isFree, freeRecord, recordAt, placeCount, indexOf}
+use Rattle.table.specs.Places.{stateNumber, isFree, freeRecord, recordAt, placeCount}
 use Rattle.table.specs.Search.{holds}
 use Rattle.table.proofs.Calls.{holds-same, holds-occupied}
-use Rattle.table.proofs.Sides.{place-index}
 use Rattle.table.proofs.States.{same-state}
 use Rattle.events.specs.declared.Event.{Event}
 use Rattle.events.specs.declared.Answer.{Answer}
 use Rattle.step.specs.Step.{stepOf}
-use Rattle.step.specs.Promises.{Full, AtOnePlace}
+use Rattle.step.specs.Promises.{Full, indexAt}
 use Rattle.stays.specs.Stays.{Mark, starts, goes-on, ends, Stays, none, add, keep, eventsAt, stays, run}
 use Rattle.stays.specs.Stays as Fold
 use Rattle.stays.specs.ParkTable.{machine}
@@ -103,7 +102,7 @@ good-after {s} {st} g (event e) = record { inv = inv (eqb (stepOf (s .table) e .
 
     wide : Came (s .lamps) (s .table) e (stepOf (s .table) e) → length (litOf (s .lamps) (s .table) e (stepOf (s .table) e .answer) .lamps .places) ≡ length (s .lamps .places)
     wide (refused q same lit) = rw lit
-    wide (done x q from lit) = rw lit (lit-wide (s .lamps) (x .index) (stepOf (s .table) e .answer) (sends (x .move)))
+    wide (done x q from lit) = rw lit (lit-wide (s .lamps) (indexAt (stepOf (s .table) e)) (stepOf (s .table) e .answer) (sends (x .move)))
 good-after {s} g (reply r) = record { inv = g .inv; wide = settled-wide (settling (s .lamps) (g .wide) r) ∙ g .wide }
 
 pub good-final : (s : Endpoint) (st : Stays Act) → Good s st → (xs : List Input) → Good (final s xs) (stays machine st (run machine (s .table) (eventsIn xs)))
@@ -219,10 +218,8 @@ module _ {s : Endpoint} {st : Stays Act} (g : Good s st) (e : Event) (k : eqb (s
       (λ w. rw over (ended-snoc w (st .ended) (eventsAt at (st .running) ++ (act ∷ []))))
 
   -- THE GROWTH, at the place of the step
-  pub grown : (x : AtOnePlace (s .table) (stepOf (s .table) e)) → Grown st (staysBy st s (event e)) act (recordAt (s .table) (x .index) .state)
-  grown x =
-      let same : at ≡ x .index = ap (λ p. indexOf (p .0)) (x .place) ∙ place-index (x .index) (x .inside) in
-      rw k (subst (λ (i : ℕ). Grown st (add (machine .mark act) at act st) act (recordAt (s .table) i .state)) same (grown-at (machine .mark act) refl))
+  pub grown : Grown st (staysBy st s (event e)) act (recordAt (s .table) (indexAt (stepOf (s .table) e)) .state)
+  grown = rw k (grown-at (machine .mark act) refl)
 
 -- ---- sums
 

@@ -14,6 +14,7 @@ use Rattle.table.proofs.Sides.{place-number}
 use Rattle.events.specs.declared.Answer.{Answer}
 use Rattle.events.specs.Turn.{up}
 use Rattle.step.specs.Step.{stepOf}
+use Rattle.step.specs.Promises.{indexAt}
 use Rattle.stays.proofs.Part.{getD-free}
 use Rattle.lamps.specs.declared.members.Indication.{Indication}
 use Rattle.lamps.specs.declared.members.Gp.{Gp}
@@ -147,7 +148,7 @@ follows-clause s (event e) full i m inside who =
     by (refused q same lit) = subst (λ z. Asking (s .lamps) z i m) (sym lit) (none-asked (s .lamps) i m)
     by (done x q from lit) =
         subst (λ z. Asking (s .lamps) z i m) (sym lit)
-        (lit-asked (s .lamps) (full .1) (stepOf (s .table) e .answer) (sends (x .move)) i (x .index) m (x .inside) (x .place) who)
+        (lit-asked (s .lamps) (full .1) (stepOf (s .table) e .answer) (sends (x .move)) i (indexAt (stepOf (s .table) e)) m (x .inside) (x .place) who)
 follows-clause s (reply r) full i m inside who =
     let f = reply-follows (s .lamps) (full .1) r i m who (settling (s .lamps) (full .1) r) in
     record { state = f .state; started = by (settlesAt (settledOf (s .lamps) r) r i m); stopped = f .stopped }

@@ -14,7 +14,7 @@ use Rattle.table.specs.Places.{stateNumber, isFree, emptyTable, recordAt}
 use Rattle.events.specs.declared.Event.{Event}
 use Rattle.events.specs.declared.Answer.{Answer}
 use Rattle.step.specs.Step.{stepOf}
-use Rattle.step.specs.Promises.{Move, starts, goes-on, hands-over, ends, is-left, AtOnePlace}
+use Rattle.step.specs.Promises.{Move, starts, goes-on, hands-over, ends, is-left, indexAt, AtOnePlace}
 use Rattle.stays.specs.Stays.{one-if, count, Stay, Stays, none, run, stays, allStays}
 use Rattle.stays.specs.ParkTable.{machine}
 use Rattle.stays.specs.Demand.{Act}
@@ -151,10 +151,10 @@ module _ (f : List ℕ → Bool) where
     -- an event that is done: by how the stays grow
     module _ (x : AtOnePlace t (stepOf t e)) (q : eqb (a .number) 0 ≡ true) where
       abbrev before : State
-      before = recordAt t (x .index) .state
+      before = recordAt t (indexAt (stepOf t e)) .state
 
       grew : Grown st (staysBy st s (event e)) (actOf t e) before
-      grew = grown good e q x
+      grew = grown good e q
 
       begun-grows : startsStay (e .kind) ≡ isFree before → counted (λ e a. startsStay (e .kind)) f s (event e) + weight of-stay st ≡ weight of-stay (staysBy st s (event e))
       begun-grows from =
@@ -179,9 +179,9 @@ module _ (f : List ℕ → Bool) where
               sum-of false = omega arith
 
       -- .. and by what it sends
-      module _ (m : ℕ) (who : isMember m ≡ true) (lit : litOf (s .lamps) t e a ≡ litBy (s .lamps) (x .index) a (sends (x .move))) where
+      module _ (m : ℕ) (who : isMember m ≡ true) (lit : litOf (s .lamps) t e a ≡ litBy (s .lamps) (indexAt (stepOf t e)) a (sends (x .move))) where
         said : (n : Indication) → sentTo n f m s (event e) ≡ one-if (isFor n (sends (x .move)) && f (a .call))
-        said n = ap (λ (z : Lit). noticed n m (z .notice)) lit ∙ noticed-lit n m who (s .lamps) (x .index) a (sends (x .move))
+        said n = ap (λ (z : Lit). noticed n m (z .notice)) lit ∙ noticed-lit n m who (s .lamps) (indexAt (stepOf t e)) a (sends (x .move))
 
         on-grows : sentTo On f m s (event e) + weight of-stay st ≡ weight of-stay (staysBy st s (event e))
         on-grows =
@@ -201,7 +201,7 @@ module _ (f : List ℕ → Bool) where
   -- what is sent to the member, with a number of the stays that grows by it
   once-sent : (m : ℕ) → isMember m ≡ true → (n : Indication) (g : List Act → ℕ)
       → ((s : Endpoint) (st : Stays Act) (good : Good s st) (e : Event) (x : AtOnePlace (s .table) (stepOf (s .table) e)) → eqb (stepOf (s .table) e .answer .number) 0 ≡ true
-      → litOf (s .lamps) (s .table) e (stepOf (s .table) e .answer) ≡ litBy (s .lamps) (x .index) (stepOf (s .table) e .answer) (sends (x .move))
+      → litOf (s .lamps) (s .table) e (stepOf (s .table) e .answer) ≡ litBy (s .lamps) (indexAt (stepOf (s .table) e)) (stepOf (s .table) e .answer) (sends (x .move))
       → sentTo n f m s (event e) + weight g st ≡ weight g (staysBy st s (event e)))
       → (s : Endpoint) (st : Stays Act) → Good s st → (x : Input) → sentTo n f m s x + weight g st ≡ weight g (staysBy st s x)
   once-sent m who n g grows-by s st good (event e) = by (came (s .lamps) (s .table) e (full good))
@@ -214,7 +214,7 @@ module _ (f : List ℕ → Bool) where
   -- what is counted of the answers, with a number of the stays that grows by it
   once-counted : (p : Event → Answer → Bool) (total : Stays Act → ℕ)
       → ((s : Endpoint) (st : Stays Act) → Good s st → (e : Event) (x : AtOnePlace (s .table) (stepOf (s .table) e)) → eqb (stepOf (s .table) e .answer .number) 0 ≡ true
-      → startsStay (e .kind) ≡ isFree (recordAt (s .table) (x .index) .state) → counted p f s (event e) + total st ≡ total (staysBy st s (event e)))
+      → startsStay (e .kind) ≡ isFree (recordAt (s .table) (indexAt (stepOf (s .table) e)) .state) → counted p f s (event e) + total st ≡ total (staysBy st s (event e)))
       → (s : Endpoint) (st : Stays Act) → Good s st → (x : Input) → counted p f s x + total st ≡ total (staysBy st s x)
   once-counted p total grows-by s st good (event e) = by (came (s .lamps) (s .table) e (full good))
     where

@@ -20,7 +20,7 @@ use Rattle.events.specs.declared.Event.{Event}
 use Rattle.events.specs.declared.Answer.{Answer}
 use Rattle.events.specs.Turn.{up}
 use Rattle.step.specs.Step.{stepOf}
-use Rattle.step.specs.Promises.{offered, Move, starts, goes-on, hands-over, ends, is-left}
+use Rattle.step.specs.Promises.{offered, Move, starts, goes-on, hands-over, ends, is-left, indexAt}
 use Rattle.table.proofs.Sides.{place-number, same-index}
 use Rattle.stays.specs.Stays.{Stays, none, run}
 use Rattle.stays.specs.ParkTable.{machine}
@@ -124,27 +124,30 @@ FitsAt s i last = Fits (lampAt (s .lamps) i) (recordAt (s .table) i) last
 module _ (i : ℕ) (inside : i < placeCount) (last : LastStay) (s : Endpoint) (st : Stays Act) (good : Good s st) (fits : FitsAt s i last) where
   event-fits : (e : Event) → Came (s .lamps) (s .table) e (stepOf (s .table) e) → FitsAt (endpointAfter s (event e)) i (lastBy i last s (event e))
   event-fits e (refused q same lit) = rw (lit, same, q) fits
-  event-fits e (done x q from lit) = rw (lit, q) (by (ℕ-discrete i (x .index)))
+  event-fits e (done x q from lit) = rw (lit, q) (by (ℕ-discrete i at))
     where
       a : Answer
       a = stepOf (s .table) e .answer
 
-      number : a .place .0 ≡ x .index + 1
-      number = ap (λ p. p .0) (x .place) ∙ place-number (x .index) (x .inside)
+      at : ℕ
+      at = indexAt (stepOf (s .table) e)
+
+      number : a .place .0 ≡ at + 1
+      number = ap (λ p. p .0) (x .place) ∙ place-number at (x .inside)
 
       lit-lamps : Lamps
-      lit-lamps = litBy (s .lamps) (x .index) a (sends (x .move)) .lamps
+      lit-lamps = litBy (s .lamps) at a (sends (x .move)) .lamps
 
-      by : Dec (i ≡ x .index) → Fits (lampAt lit-lamps i) (recordAt (stepOf (s .table) e .table) i) (nowAt i last (actOf (s .table) e))
+      by : Dec (i ≡ at) → Fits (lampAt lit-lamps i) (recordAt (stepOf (s .table) e .table) i) (nowAt i last (actOf (s .table) e))
       by (no n) =
           let elsewhere : eqb (a .place .0) (i + 1) ≡ false = ne-eqb (a .place .0) (i + 1) (λ w. n (omega (arith, number))) in
-          rw (elsewhere, lit-other (s .lamps) a (x .index) (sends (x .move)) i n, x .others i n) fits
+          rw (elsewhere, lit-other (s .lamps) a at (sends (x .move)) i n, x .others i n) fits
       by (yes w) =
           let here : eqb (a .place .0) (i + 1) ≡ true = eq-eqb (a .place .0) (i + 1) (omega (arith, number)) in
-          let f : Fits (lampAt (s .lamps) (x .index)) (recordAt (s .table) (x .index)) last = subst (λ k. FitsAt s k last) w fits in
-          let m = moved (x .move) (lampAt (s .lamps) (x .index)) (lampAt lit-lamps (x .index)) a
-          (lit-here (s .lamps) a (x .index) (sends (x .move)) (omega (arith, x .inside, good .wide))) (f .offered-on) (λ h. f .held-call h ∙ x .call-before h) in
-          let now : Fits (lampAt lit-lamps (x .index)) (recordAt (stepOf (s .table) e .table) (x .index)) (record { call = a .call; over = isOver (a .state) }) =
+          let f : Fits (lampAt (s .lamps) at) (recordAt (s .table) at) last = subst (λ k. FitsAt s k last) w fits in
+          let m = moved (x .move) (lampAt (s .lamps) at) (lampAt lit-lamps at) a
+          (lit-here (s .lamps) a at (sends (x .move)) (omega (arith, x .inside, good .wide))) (f .offered-on) (λ h. f .held-call h ∙ x .call-before h) in
+          let now : Fits (lampAt lit-lamps at) (recordAt (stepOf (s .table) e .table) at) (record { call = a .call; over = isOver (a .state) }) =
           record { offered-on = m .offered-on; held-call = λ h. m .call ∙ sym (x .call-after h); over = m .over ∙ sym (ap isOver (x .state)); call = m .call } in
           rw here (subst (λ k. Fits (lampAt lit-lamps k) (recordAt (stepOf (s .table) e .table) k) (record { call = a .call; over = isOver (a .state) })) (sym w) now)
 
@@ -221,8 +224,9 @@ replaces xs (event e) n i inside q at = by (came l t e (full (good-final start n
     by : Came l t e (stepOf t e) → isOff (lampAt l i .indication) ≡ not (isOff n)
     by (refused h same lit) = absurd (let none-asked : NoOne ≡ Each n = sym (ap (λ (z : Lit). z .notice .asks) lit) ∙ q in let z : _≡_ {A = ℕ} 0 1 = cc none-asked in omega arith)
     by (done x h from lit) =
-        let asks : sends (x .move) ≡ Each n = sym (lit-asks l (x .index) a (sends (x .move))) ∙ sym (ap (λ (z : Lit). z .notice .asks) lit) ∙ q in
-        let place : placeAt i ≡ placeAt (x .index) =
-        sym at ∙ ap (λ (z : Lit). z .notice .place) lit ∙ lit-place l (x .index) a (sends (x .move)) n asks ∙ x .place in
-        let same : i ≡ x .index = same-index i (x .index) inside (x .inside) place in
+        let here : ℕ = indexAt (stepOf t e) in
+        let asks : sends (x .move) ≡ Each n = sym (lit-asks l here a (sends (x .move))) ∙ sym (ap (λ (z : Lit). z .notice .asks) lit) ∙ q in
+        let place : placeAt i ≡ placeAt here =
+        sym at ∙ ap (λ (z : Lit). z .notice .place) lit ∙ lit-place l here a (sends (x .move)) n asks ∙ x .place in
+        let same : i ≡ here = same-index i here inside (x .inside) place in
         all-fit xs i inside .offered-on ∙ ap (λ (k : ℕ). not (offered (recordAt t k .state))) same ∙ other-before (x .move) n asks

@@ -8,6 +8,7 @@ use native.Mathlib.Omega.{arith}
 use Rattle.events.specs.declared.Event.{Event}
 use Rattle.events.specs.declared.Answer.{Answer}
 use Rattle.step.specs.Step.{stepOf}
+use Rattle.step.specs.Promises.{indexAt}
 use Rattle.stays.specs.Stays.{one-if, Stays, none}
 use Rattle.stays.specs.Demand.{Act}
 use Rattle.lamps.specs.declared.Endpoint.{Endpoint}
@@ -66,7 +67,7 @@ module _ (m : ℕ) (who : isMember m ≡ true) (s : Endpoint) (st : Stays Act) (
 
       by : Came (s .lamps) (s .table) e (stepOf (s .table) e) → Counts (s .lamps) (litOf (s .lamps) (s .table) e a)
       by (refused q same lit) = subst (Counts (s .lamps)) (sym lit) (counts (s .lamps) 0 a NoOne)
-      by (done x q from lit) = subst (Counts (s .lamps)) (sym lit) (counts (s .lamps) (x .index) a (sends (x .move)))
+      by (done x q from lit) = subst (Counts (s .lamps)) (sym lit) (counts (s .lamps) (indexAt (stepOf (s .table) e)) a (sends (x .move)))
 
   last-after : (x : Input) (n : ℕ) → s .lamps .last .0 ≡ n % 2 ^ 16 → endpointAfter s x .lamps .last .0 ≡ (n + requestTo m s x) % 2 ^ 16
   last-after (event e) n q = rw who (event-counts e .last n q)

@@ -1,7 +1,8 @@
--- Laws of `Lists`: one step of a fold and its end; a test of every index below a bound, by index; a list by its indexes, by index.
+-- Laws of `Lists`: one step of a fold and its end; a list changed by index, by index; a test of every index below a bound, by index; a list by its
+-- indexes, by index.
 use mathlib.Core.Path.{_≡_, refl, ap, _∙_}
 use mathlib.Core.Bool.{Bool, true, false}
-use mathlib.Core.List.{List}
+use mathlib.Core.List.{List, [], _∷_}
 use mathlib.Core.Logic.{⊎-elim}
 use Prim.Native.Nat.{ℕ, zero, suc, _+_, _-_, _<_, _≤_}
 use native.Mathlib.Nat.{add-zero, not-suc-le-zero, le-of-suc-le-suc}
@@ -9,7 +10,7 @@ use native.Mathlib.Numerals.{add-one}
 use native.Mathlib.Omega.{arith}
 use lib.ListN.{length, drop, getD, drop-of-length-le}
 use lib.Seq.{drop-cons}
-use Rattle.laws.specs.Lists.{folded, below, listed}
+use Rattle.laws.specs.Lists.{folded, mapped, below, listed}
 use Rattle.laws.proofs.Bools.{and-left, and-right, and-both, not-both, equal-or}
 
 -- ---- a fold at index i of a list, and past it; d is what a read past the list gives
@@ -40,6 +41,19 @@ module _ {A B : Type 0} (f : ℕ → A → B → B) (end : B) (d : A) (l : List 
 
   pub fold-rest : (i : ℕ) → i ≤ length l → ((j : ℕ) → i ≤ j → j < length l → (b : B) → f j (getD l j d) b ≡ b) → folded f end i (drop i l) ≡ end
   fold-rest i h idle = rest (length l - i) i (omega arith) idle
+
+-- ---- a list changed by index
+
+module _ {A B : Type 0} (f : ℕ → A → B) where
+  pub mapped-size : (i : ℕ) (l : List A) → length (mapped f i l) ≡ length l
+  mapped-size i [] = refl
+  mapped-size i (x ∷ xs) = ap suc (mapped-size (i + 1) xs)
+
+  pub mapped-at : (d : A) (e : B) (i : ℕ) (l : List A) (k : ℕ) → k < length l → getD (mapped f i l) k e ≡ f (i + k) (getD l k d)
+  mapped-at d e i [] k h = absurd (not-suc-le-zero h)
+  mapped-at d e i (x ∷ xs) zero h = rw (add-zero i)
+  mapped-at d e i (x ∷ xs) (suc k) h =
+      let at : i + 1 + k ≡ i + suc k = omega arith in mapped-at d e (i + 1) xs k (le-of-suc-le-suc h) ∙ ap (λ (n : ℕ). f n (getD xs k d)) at
 
 -- ---- every index below a bound
 

@@ -1,4 +1,5 @@
--- What several crates say of lists and indexes: a fold that is told the index, a test of every index below a bound, a list by its indexes.
+-- What several crates say of lists and indexes: a fold that is told the index, a list changed by index, a test of every index below a bound, a list by
+-- its indexes.
 use mathlib.Core.Bool.{Bool, true, _&&_}
 use mathlib.Core.List.{List, [], _∷_}
 use Prim.Native.Nat.{ℕ, zero, suc, _+_}
@@ -7,6 +8,10 @@ use Prim.Native.Nat.{ℕ, zero, suc, _+_}
 abbrev pub folded : {A B : Type 0} → (ℕ → A → B → B) → B → ℕ → List A → B
 folded f end i [] = end
 folded f end i (x ∷ xs) = f i x (folded f end (i + 1) xs)
+
+-- what a function gives of each element of a list and of its index, counted from i
+abbrev pub mapped : {A B : Type 0} → (ℕ → A → B) → ℕ → List A → List B
+mapped f = folded (λ i x later. f i x ∷ later) []
 
 -- every index below n passes the test
 unfoldable pub below : (ℕ → Bool) → ℕ → Bool

@@ -6,7 +6,7 @@ use mathlib.Core.Bool.{Bool, true, false, cond}
 use mathlib.Core.List.{List}
 use Prim.Native.Nat.{ℕ, _<_}
 use lib.Dec.{eqb}
-use lib.ListN.{length, getD}
+use lib.ListN.{length}
 use borrow.Author.Tests.{eqb-true, eqb-false, ne-eqb}
 use Rattle.laws.proofs.Bools.{and-left, and-right}
 use Rattle.table.specs.declared.Record.{Record}
@@ -29,7 +29,6 @@ use Rattle.events.specs.Act.{stayCall, left, acted}
 use Rattle.step.specs.declared.aim.Aim.{Aim}
 use Rattle.step.specs.declared.aim.Aim.the-variants.{To, Nowhere}
 use Rattle.step.specs.Aim.{aim}
-use Rattle.step.specs.declared.Step.{Step}
 use Rattle.step.specs.Step.{carriedOut, stepAny, stepOf}
 use Rattle.step.proofs.Aims.{aim-inside}
 use Rattle.step.proofs.Promises.{refusal-keeps}
@@ -39,9 +38,11 @@ use Rattle.lines.specs.EventLine.{readLine}
 use Rattle.lent.specs.LineStep.{stepRead}
 use Rattle.lines.proofs.Ranged.{read-ranged}
 use Rattle.image.specs.Image.{Fit, imageOf, placePut, statesFit, tableFrom, isSoundImage, imageOctets}
+use Rattle.image.specs.Round.{Octets}
 use Rattle.image.proofs.Round.{table-back, fit-from, image-written-back}
 use Rattle.image.proofs.Puts.{place-put, put-fit}
 use Rattle.lent.specs.Lent.{stepOn, leftOn, writtenAt, leftFor, eventAnswer, eventImage}
+use Rattle.lent.specs.Kept.{EventAnswersStep, EventLeavesStep, LineOctetByOctet, StepReadsBack}
 
 -- what is left at a place has a call of 16 octets, where the event and the record have
 module _ (e : Event) (i : ℕ) (r : Record) (given : length (e .call) ≡ 16) (held : length (r .call) ≡ 16) where
@@ -104,47 +105,63 @@ module _ (t : Table) (f : Fit t) (sound : isSound t ≡ true) (e : Event) (given
   pub fit-after : Fit (stepOf t e .table)
   fit-after = rw sound (fit-at (aim (ruleOf (e .kind)) t e) refl)
 
-  -- THE STEP, TAKEN AT THE IMAGE AND READ BACK
-  pub step-back : _≡_ {A = Step} (record { table = tableFrom (eventImage (imageOf t) e); answer = eventAnswer (imageOf t) e }) (stepOf t e)
-  step-back =
-      let there : tableFrom (eventImage (imageOf t) e) ≡ stepOf t e .table = ap tableFrom image-after ∙ table-back (stepOf t e .table) fit-after in
-      λ j. record { table = there j; answer = answer-of j }
+-- THE STEP, TAKEN AT THE IMAGE AND READ BACK
+pub step-back : StepReadsBack
+step-back t f sound e given =
+    let there : tableFrom (eventImage (imageOf t) e) ≡ stepOf t e .table =
+    ap tableFrom (image-after t f sound e given) ∙ table-back (stepOf t e .table) (fit-after t f sound e given) in
+    λ j. record { table = there j; answer = answer-of t f sound e given j }
 
 -- ---- at an image that is read
 
-module _ (image : List ℕ) (octets : (k : ℕ) → getD image k 0 < 256) (good : isSoundImage image ≡ true) where
-  abbrev held : Table
-  held = tableFrom image
-
+module _ (image : List ℕ) (good : isSoundImage image ≡ true) where
   pub image-long : length image ≡ imageOctets
   image-long = eqb-true (length image) imageOctets (and-left (eqb (length image) imageOctets) _ good)
 
-  pub image-sound : isSound held ≡ true
+  pub image-sound : isSound (tableFrom image) ≡ true
   image-sound = and-right (statesFit image) _ (and-right (eqb (length image) imageOctets) _ good)
 
-  written-back : imageOf held ≡ image
-  written-back = image-written-back image (λ k h. octets k) good
+  pub image-fit : Fit (tableFrom image)
+  image-fit = fit-from image image-long
 
-  module _ (e : Event) (given : length (e .call) ≡ 16) where
-    answer-kept : eventAnswer image e ≡ stepOf held e .answer
-    answer-kept = ap (λ (o : List ℕ). eventAnswer o e) (sym written-back) ∙ answer-of held (fit-from image image-long) image-sound e given
+-- THE EVENT AT THE IMAGE, octet by octet
+pub answer-kept : EventAnswersStep
+answer-kept image octets good e given =
+    ap (λ (o : List ℕ). eventAnswer o e) (sym (image-written-back image octets good))
+    ∙ answer-of (tableFrom image) (image-fit image good) (image-sound image good) e given
 
-    image-kept : eventImage image e ≡ cond (eqb (stepOf held e .answer .number) 0) (imageOf (stepOf held e .table)) image
-    image-kept =
-        ap (λ (o : List ℕ). eventImage o e) (sym written-back)
-        ∙ image-of held (fit-from image image-long) image-sound e given
-        ∙ ap (λ (o : List ℕ). cond (eqb (stepOf held e .answer .number) 0) (imageOf (stepOf held e .table)) o) written-back
+pub image-kept : EventLeavesStep
+image-kept image octets good e given =
+    ap (λ (o : List ℕ). eventImage o e) (sym (image-written-back image octets good))
+    ∙ image-after (tableFrom image) (image-fit image good) (image-sound image good) e given
 
-  -- THE LINE AT THE IMAGE: the event that it says, or its refusal
-  pub line-kept : (line : List ℕ) (b : Bool) → eqb (readLine line .number) 0 ≡ b
+module _ (image : List ℕ) (octets : Octets image) (good : isSoundImage image ≡ true) where
+  abbrev held : Table
+  held = tableFrom image
+
+  -- the same, where a refused event leaves the image as it was
+  image-left : (e : Event) → length (e .call) ≡ 16
+      → eventImage image e ≡ cond (eqb (stepOf held e .answer .number) 0) (imageOf (stepOf held e .table)) image
+  image-left e given =
+      let written-back = image-written-back image octets good in
+      ap (λ (o : List ℕ). eventImage o e) (sym written-back)
+      ∙ image-of held (image-fit image good) (image-sound image good) e given
+      ∙ ap (λ (o : List ℕ). cond (eqb (stepOf held e .answer .number) 0) (imageOf (stepOf held e .table)) o) written-back
+
+  -- by whether the line is read
+  pub line-by : (line : List ℕ) (b : Bool) → eqb (readLine line .number) 0 ≡ b
       → (cond b (eventAnswer image (readLine line .event)) (saying (readLine line .number) NoMessage) ≡ stepOn image line .answer)
       × (cond b (eventImage image (readLine line .event)) image ≡ leftOn image line)
-  line-kept line b said = rw good (by (readLine line) b said (read-ranged line .event .call .long))
+  line-by line b said = rw good (by (readLine line) b said (read-ranged line .event .call .long))
     where
       by : (r : ReadEvent) (b : Bool) → eqb (r .number) 0 ≡ b → length (r .event .call) ≡ 16
           → (cond b (eventAnswer image (r .event)) (saying (r .number) NoMessage) ≡ stepRead held r .answer)
           × (cond b (eventImage image (r .event)) image ≡ cond (eqb (stepRead held r .answer .number) 0) (imageOf (stepRead held r .table)) image)
-      by r true q l = rw q (answer-kept (r .event) l, image-kept (r .event) l)
+      by r true q l = rw q (answer-kept image octets good (r .event) l, image-left (r .event) l)
       by r false q l =
           let stays : image ≡ cond (eqb (r .number) 0) (imageOf held) image = rw q in
           (rw q, rw q stays)
+
+-- THE LINE AT THE IMAGE: the event that it says, or its refusal
+pub line-kept : LineOctetByOctet
+line-kept image octets good line = line-by image octets good line (eqb (readLine line .number) 0) refl

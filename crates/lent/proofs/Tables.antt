@@ -3,10 +3,10 @@
 use mathlib.Core.Path.{_≡_, refl, sym, ap, _∙_}
 use mathlib.Core.Bool.{Bool, true, false, cond}
 use mathlib.Core.List.{List, _++_}
-use Prim.Native.Nat.{ℕ, zero, suc, _+_, _*_, _<_}
+use Prim.Native.Nat.{ℕ, zero, suc, _+_, _*_}
 use native.Mathlib.Omega.{arith}
 use lib.Dec.{eqb}
-use lib.ListN.{length, getD, replicate, length-replicate, getD-replicate, replicate-append-replicate}
+use lib.ListN.{length, replicate, length-replicate, getD-replicate, replicate-append-replicate}
 use borrow.Author.Tests.{eqb-false}
 use Rattle.table.specs.declared.Table.{Table}
 use Rattle.table.specs.Places.{freeRecord, emptyTable, blank, placeCount}
@@ -21,10 +21,11 @@ use Rattle.lines.specs.declared.ReadEvent.{ReadEvent}
 use Rattle.lines.specs.EventLine.{readLine}
 use Rattle.lent.specs.LineStep.{lineStep}
 use Rattle.lines.proofs.Ranged.{read-ranged}
-use Rattle.image.specs.Image.{Fit, octetsOf, octetsOfAll, imageOf, tableFrom, isSoundImage, placeOctets, imageOctets}
-use Rattle.image.proofs.Round.{fit-from, image-tested, image-reads-back, image-written-back}
+use Rattle.image.specs.Image.{Fit, octetsOf, octetsOfAll, imageOf, tableFrom, isSoundImage, readImage, placeOctets, imageOctets}
+use Rattle.image.proofs.Round.{image-tested, image-reads-back, image-written-back}
 use Rattle.lent.specs.Lent.{stepOn, stepAt, leftOn}
-use Rattle.lent.proofs.Kept.{fit-after, image-long, image-sound}
+use Rattle.lent.specs.Kept.{LineAtTable, LeavesItsImage, ReadAgain, StaysRead}
+use Rattle.lent.proofs.Kept.{fit-after, image-sound, image-fit}
 
 -- a table as the types say, and sound
 pub record Good (t : Table) : Type 0 where
@@ -72,13 +73,30 @@ module _ (t : Table) (g : Good t) (line : List ℕ) where
 pub image-good : (t : Table) → Good t → isSoundImage (imageOf t) ≡ true
 image-good t g = image-tested t (g .fit) ∙ g .sound
 
+-- ---- at an image that is read
+
+good-from : (image : List ℕ) → isSoundImage image ≡ true → Good (tableFrom image)
+good-from image good = record { fit = image-fit image good; sound = image-sound image good }
+
+-- THE LINE AT THE TABLE THAT WAS READ
+pub on-read : LineAtTable
+on-read image line good = rw good
+
+-- WHAT IT LEAVES
+pub left-read : LeavesItsImage
+left-read image line octets good =
+    ap (λ o. leftOn o line) (sym (image-written-back image octets good)) ∙ left-image (tableFrom image) (good-from image good) line
+
 -- AN IMAGE STAYS READ
-pub stays-read : (image line : List ℕ) → ((k : ℕ) → getD image k 0 < 256) → isSoundImage image ≡ true → isSoundImage (leftOn image line) ≡ true
+pub read-after : ReadAgain
+read-after image line octets good =
+    let after = line-good (tableFrom image) (good-from image good) line in
+    ap readImage (left-read image line octets good) ∙ image-reads-back (lineStep (tableFrom image) line .table) (after .fit) (after .sound)
+
+pub stays-read : StaysRead
 stays-read image line octets good =
-    let t : Table = tableFrom image in
-    let g : Good t = record { fit = fit-from image (image-long image octets good); sound = image-sound image octets good } in
-    let same : imageOf t ≡ image = image-written-back image (λ k h. octets k) good in
-    ap (λ o. isSoundImage (leftOn o line)) (sym same) ∙ ap isSoundImage (left-image t g line) ∙ image-good (lineStep t line .table) (line-good t g line)
+    ap isSoundImage (left-read image line octets good)
+    ∙ image-good (lineStep (tableFrom image) line .table) (line-good (tableFrom image) (good-from image good) line)
 
 -- ---- the empty table
 

@@ -1,5 +1,5 @@
 -- A table that is kept as its image, in octets that the caller lends: the line at an image (`stepOn`, `leftOn`), and what the code does
--- octet by octet, for any octets. `proofs/Kept.antt` shows that at the image of a sound table the two agree.
+-- octet by octet, for any octets. At the image of a sound table the two agree (`specs/Kept.antt`).
 use mathlib.Core.Path.{_≡_}
 use mathlib.Core.Bool.{cond}
 use mathlib.Core.List.{List}

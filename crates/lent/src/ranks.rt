@@ -11,9 +11,9 @@ ghost use Prim.Native.Nat.{_*_, _<_};
 ghost use lib.Dec.{eqb};
 ghost use lib.ListN.{length};
 ghost use Rattle.table.specs.Places.{isFree, placeCount};
-ghost use Rattle.table.specs.Ranks.{callsOn, movedUp, closedUp};
+ghost use Rattle.table.specs.Ranks.{callsOn, movedUp, changeOf};
 ghost use Rattle.table.specs.Marks.{ofSide};
-ghost use Rattle.image.specs.Image.{imageOctets, rankIndex, recordIn, tableFrom, rerankedIn};
+ghost use Rattle.image.specs.Image.{imageOctets, recordIn, tableFrom, closedUpIn, rerankedIn};
 ghost use Rattle.image.specs.Quick.{callsIn};
 
 // Of two numbers, one for each side, that of a side.
@@ -68,7 +68,7 @@ pub(crate) fn calls_in(image: &[u8]) -> Calls
 // Lowers the ranks of a side above k. What looks for ranks looks at no other place.
 fn close_up(image: &mut [u8], a: Side, k: u8)
     requires { ⌜ length (now image) ≡ imageOctets ⌝ }
-    ensures { λ _. ⌜ now (image .exit) ≡ closedUp rankIndex a k placeCount (now (image .entry)) ⌝ }
+    ensures { λ _. ⌜ now (image .exit) ≡ closedUpIn a k placeCount (now (image .entry)) ⌝ }
 {
     let mut j = a.first();
     let end = a.end();
@@ -82,7 +82,7 @@ fn close_up(image: &mut [u8], a: Side, k: u8)
 // Gives an image the ranks that it has when the record at an index comes into another state.
 pub(crate) fn rerank(image: &mut [u8], i: usize, after: State)
     requires { ⌜ (i < placeCount) × (length (now image) ≡ imageOctets) ⌝ }
-    ensures { λ _. ⌜ now (image .exit) ≡ rerankedIn (now (image .entry)) i (isFree (recordIn (now (image .entry)) i .state)) (isFree after) ⌝ }
+    ensures { λ _. ⌜ now (image .exit) ≡ rerankedIn (now (image .entry)) i (changeOf (isFree (recordIn (now (image .entry)) i .state)) (isFree after)) ⌝ }
 {
     let at = i * PLACE_OCTETS;
     let a = Side::at(i);

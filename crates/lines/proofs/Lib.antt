@@ -4,5 +4,4 @@ pub mod Feed
 pub mod Round
 pub mod Ranged
 pub mod BadField
-pub mod Offered
 pub mod Unique

@@ -2,4 +2,3 @@ pub mod EventLine
 pub mod BadField
 pub mod AnswerLine
 pub mod Round
-pub mod Offered

@@ -15,7 +15,8 @@ use Rattle.table.specs.declared.Side.the-variants.{Position, Line}
 use Rattle.table.specs.declared.Table.{Table}
 use Rattle.table.specs.Places.{stateNumber, isFree, sameState, sameSide, waitingOn, sideAt, blank, recordAt, rankAt, emptyTable, placeCount}
 use Rattle.table.proofs.Sides.{side-is, same-side}
-use Rattle.step.specs.Promises.{Waits}
+use Rattle.step.specs.Step.{stepOf}
+use Rattle.step.specs.Promises.{indexAt, Waits}
 use Rattle.step.proofs.Promises.{accepted-at-one-place}
 use Rattle.step.proofs.First.{takes-first}
 use Rattle.stays.specs.Stays.{In, Before, first, later, final}
@@ -79,11 +80,11 @@ serves-first es e a kind choice accepted =
     let v = inv-all machine laws es in
     let O : Ordered t (runningPlaces es) = v .shows .1 in
     let x = accepted-at-one-place t e (O .full) accepted in
-    let leads = takes-first t e a (O .full) accepted kind choice x in
+    let leads = takes-first t e a (O .full) accepted kind choice in
     record {
-      at = x .index;
+      at = indexAt (stepOf t e);
       place = x .place;
-      runs = waits-there t (runningPlaces es) O a (x .index) (leads .0);
+      runs = waits-there t (runningPlaces es) O a (indexAt (stepOf t e)) (leads .0);
       waits = leads .0;
-      first = λ j w. least-first t (runningPlaces es) O a (x .index) (x .inside) (leads .0) (leads .1) j (waits-inside t (runningPlaces es) O a j w) w;
+      first = λ j w. least-first t (runningPlaces es) O a (indexAt (stepOf t e)) (x .inside) (leads .0) (leads .1) j (waits-inside t (runningPlaces es) O a j w) w;
     }

@@ -4,11 +4,9 @@
 use mathlib.Core.Path.{_≡_, refl, sym, ap, ap₂, _∙_}
 use mathlib.Core.Bool.{Bool, true, false, cond}
 use mathlib.Core.Logic.{⊎-elim}
-use Prim.Native.Nat.{ℕ, _+_, _<_}
+use Prim.Native.Nat.{ℕ, _<_}
 use native.Mathlib.Omega.{arith}
-use lib.Dec.{ltb}
 use lib.ListN.{length}
-use borrow.Author.Tests.{lt-ltb}
 use Rattle.laws.proofs.Bools.{not-both, equal-or}
 use Rattle.table.specs.declared.Side.{Side}
 use Rattle.table.specs.declared.Record.{Record}
@@ -91,8 +89,7 @@ module _ (t : Table) (size : length (t .places) ≡ placeCount) (e : Event) wher
 
   pub took : (s : Step) → Stepped t size e s → AtOnePlace t s → Took t e s
   took s (kept w) x =
-      let in-table : ltb (x .index) placeCount ≡ true = lt-ltb (x .index) placeCount (x .inside) in
-      let no : 0 ≡ x .index + 1 = ap (λ p. p .0) (rw in-table at (x .place)) in
+      let no : _≡_ {A = ℕ} 0 1 = ap (λ p. p .0) (x .place) in
       absurd (omega arith)
   took s (begun d i sound rule room) x = record {
     at = i;

@@ -22,8 +22,8 @@ use Rattle.step.specs.declared.Step.{Step}
 use Rattle.step.specs.declared.aim.Aim.the-variants.{To}
 use Rattle.step.specs.Aim.{aimAt, aimFor, aim}
 use Rattle.step.specs.Step.{stepOf}
-use Rattle.step.specs.Promises.{AtOnePlace, choiceOf, Waits, TakesFirst}
-use Rattle.table.proofs.Sides.{same-index}
+use Rattle.step.specs.Promises.{indexAt, choiceOf, Waits, TakesFirst}
+use Rattle.table.proofs.Sides.{place-index}
 use Rattle.step.proofs.Aims.{aim-at-to}
 use Rattle.step.proofs.Stepped.{Reached, Stepped, kept, begun, ended, went-on, stepped}
 
@@ -53,13 +53,13 @@ module _ (t : Table) (size : length (t .places) ≡ placeCount) (e : Event) (a :
       let same : k ≡ PickRequest = cc (sym (at .rule) ∙ remote) in
       pickup-leads i (subst (λ s. aim (On s) t e ≡ To i) same (at .aimed))
 
-  leads : (e .kind ≡ 3) ⊎ (e .kind ≡ 4) → (s : Step) → Stepped t size e s → s .answer .number ≡ 0 → (x : AtOnePlace t s) → Leads (x .index)
-  leads kind s (kept w) h x = absurd (refused-not-0 w h)
-  leads kind s (begun d i sound rule room) h x =
+  leads : (e .kind ≡ 3) ⊎ (e .kind ≡ 4) → (s : Step) → Stepped t size e s → s .answer .number ≡ 0 → Leads (indexAt s)
+  leads kind s (kept w) h = absurd (refused-not-0 w h)
+  leads kind s (begun d i sound rule room) h =
       ⊎-elim (λ q. let r : ruleOf (e .kind) ≡ On LocalPickup = rw q in absurd (let z : _≡_ {A = ℕ} 0 1 = cc (sym rule ∙ r) in omega arith))
       (λ q. let r : ruleOf (e .kind) ≡ On PickRequest = rw q in absurd (let z : _≡_ {A = ℕ} 0 1 = cc (sym rule ∙ r) in omega arith)) kind
-  leads kind s (ended k i first second at turn) h x = subst Leads (same-index i (x .index) (at .inside) (x .inside) (x .place)) (reached-leads kind k i at)
-  leads kind s (went-on k i g n m at turn) h x = subst Leads (same-index i (x .index) (at .inside) (x .inside) (x .place)) (reached-leads kind k i at)
+  leads kind s (ended k i first second at turn) h = subst Leads (sym (place-index i (at .inside))) (reached-leads kind k i at)
+  leads kind s (went-on k i g n m at turn) h = subst Leads (sym (place-index i (at .inside))) (reached-leads kind k i at)
 
 pub takes-first : TakesFirst
-takes-first t e a all accepted kind choice x = leads t (all .0) e a choice kind (stepOf t e) (stepped t (all .0) e) accepted x
+takes-first t e a all accepted kind choice = leads t (all .0) e a choice kind (stepOf t e) (stepped t (all .0) e) accepted

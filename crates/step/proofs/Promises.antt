@@ -16,13 +16,13 @@ use Rattle.table.specs.declared.Record.{Record}
 use Rattle.table.specs.declared.Table.{Table}
 use Rattle.table.specs.declared.Found.{Found}
 use Rattle.table.specs.declared.Found.the-variants.{At, Nothing}
-use Rattle.table.specs.Places.{isFree, sideAt, placeAt, noInvoke, freeRecord, recordAt, rankAt, positionCount, placeCount}
+use Rattle.table.specs.Places.{isFree, sideAt, placeAt, indexOf, noInvoke, freeRecord, recordAt, rankAt, positionCount, placeCount}
 use Rattle.table.specs.Search.{holds, findCall}
 use Rattle.table.specs.Sound.{isSound, fitsSide, Sound}
 use Rattle.table.proofs.Calls.{holds-same, holds-occupied, occupied-holds}
 use Rattle.table.proofs.Searches.{found-passes, none-passes}
 use Rattle.table.proofs.States.{free-state}
-use Rattle.table.proofs.Sides.{side-inside, place-number}
+use Rattle.table.proofs.Sides.{side-inside, place-number, place-index}
 use Rattle.table.proofs.Facts.{facts-of-test, test-of-facts, free-fits}
 use Rattle.table.proofs.Keep.{put-size, put-here, put-other, put-sound, rank-new, rank-kept, rank-freed, ranks-stay, ranks-drop}
 use Rattle.events.specs.declared.Event.{Event}
@@ -45,14 +45,13 @@ use Rattle.events.specs.Sought.{isTimer}
 use Rattle.step.specs.declared.aim.Aim.the-variants.{To, Nowhere}
 use Rattle.events.specs.Rule.{ruleOf}
 use Rattle.events.specs.Turn.{heldRecord, stageOf, greeting, isOutstanding, turnOn, turn}
-use Rattle.table.specs.Ranks.{callsOn, put}
+use Rattle.table.specs.Ranks.{callsOn, changeOf, put}
 use Rattle.step.specs.Aim.{aim, aimAt, aimNamed, aimFor}
 use Rattle.events.specs.Act.{stayCall}
 use Rattle.events.proofs.Released.{error-in-release}
 use Rattle.events.proofs.Refusals.{refused-not-0}
 use Rattle.step.specs.Step.{refusedBy, carriedOut, stepOf}
-use Rattle.step.specs.Promises.{Full, IsAccepted, KeepsSound, RefusalKeeps, Move, starts, rankOf, AtOnePlace, AcceptedAtOnePlace, one-if, T3RunsThrough, namesCall, byName, MatchedByCall, NotHeldIs5, StartAnswersItsCall, onlyNamed, IgnoresOtherFields, ReleaseFrees, RemoteResultHolds}
-use Rattle.table.proofs.Sides.{same-index}
+use Rattle.step.specs.Promises.{Full, IsAccepted, KeepsSound, RefusalKeeps, Move, starts, rankOf, indexAt, AtOnePlace, AcceptedAtOnePlace, one-if, T3RunsThrough, namesCall, byName, MatchedByCall, NotHeldIs5, StartAnswersItsCall, onlyNamed, IgnoresOtherFields, ReleaseFrees, RemoteResultHolds}
 use Rattle.events.proofs.RuleLaws.{by-kind}
 use Rattle.step.proofs.Aims.{aim-on, aim-lost}
 use Rattle.step.proofs.Turns.{stage-fits, waiting-offered, stage-occupied, stage-connection, move-end, move-on, left-held, result-in-4}
@@ -119,24 +118,24 @@ module _ (t : Table) (all : Full t) (e : Event) where
       → AtOnePlace t (done t i new call first second)
   one-place i new call first second inside move before after =
       let here : recordAt (put t i new) i ≡ new = put-here t size i inside new in
+      let at : indexOf (placeAt i .0) ≡ i = place-index i inside in
       record {
-        index = i;
-        inside = inside;
-        place = refl;
-        others = put-other t size i inside new;
-        ranks-stay = λ held. ranks-stay t size i inside new (all .1) (rw here at held);
-        ranks-drop = λ freed. ranks-drop t size i inside new (all .1) (left-held (recordAt t i .state) (new .state) move (rw here at freed)) (rw here at freed);
-        rank = rw here (own-rank (isFree (recordAt t i .state)) refl (isFree (new .state)) refl);
-        state = rw here;
-        move = rw here move;
-        call-before = before;
-        call-after = rw here after;
-        started = rw here;
-        stopped = rw here;
+        inside = rw at inside;
+        place = rw at;
+        others = rw at (put-other t size i inside new);
+        ranks-stay = rw at (λ held. ranks-stay t size i inside new (all .1) (rw here at held));
+        ranks-drop = rw at (λ freed. ranks-drop t size i inside new (all .1) (left-held (recordAt t i .state) (new .state) move (rw here at freed)) (rw here at freed));
+        rank = rw (at, here) (own-rank (isFree (recordAt t i .state)) refl (isFree (new .state)) refl);
+        state = rw (at, here);
+        move = rw (at, here) move;
+        call-before = rw at before;
+        call-after = rw (at, here) after;
+        started = rw (at, here);
+        stopped = rw (at, here);
       }
     where
-      own-rank : (b : Bool) → isFree (recordAt t i .state) ≡ b → (c : Bool) → isFree (new .state) ≡ c → rankAt (put t i new) i ≡ rankOf b c (callsOn t (sideAt i)) (rankAt t i)
-      own-rank true p true q = absurd (not-both p (left-held (recordAt t i .state) (new .state) move q))
+      own-rank : (b : Bool) → isFree (recordAt t i .state) ≡ b → (c : Bool) → isFree (new .state) ≡ c → rankAt (put t i new) i ≡ rankOf (changeOf b c) (callsOn t (sideAt i)) (rankAt t i)
+      own-rank true p true q = rw (p, q)
       own-rank true p false q = rank-new t size i inside new (all .1) q p
       own-rank false p true q = rank-freed t size i inside new (all .1) p q
       own-rank false p false q = rank-kept t size i inside new (all .1) q p
@@ -199,13 +198,12 @@ module _ (t : Table) (all : Full t) (e : Event) where
   reached-call k i at named = aim-on t size k e i (at .aimed) .1 (rw (at .rule) at named)
 
   abbrev Matched : Step → Type 0
-  Matched s = (x : AtOnePlace t s) → (holds (e .call) (recordAt t (x .index)) ≡ true) × (s .answer .call ≡ e .call)
+  Matched s = (holds (e .call) (recordAt t (indexAt s)) ≡ true) × (s .answer .call ≡ e .call)
 
   matched-at : (k : Signal) (i : ℕ) (new : Record) (first second : Message) → Reached t e k i → byName e ≡ true → Matched (done t i new (recordAt t i .call) first second)
-  matched-at k i new first second at named x =
-      let same : i ≡ x .index = same-index i (x .index) (at .inside) (x .inside) (x .place) in
+  matched-at k i new first second at named =
       let held = reached-call k i at named in
-      (rw same at held, holds-same (e .call) (recordAt t i) held)
+      (rw (place-index i (at .inside)) held, holds-same (e .call) (recordAt t i) held)
 
   matched : (s : Step) → Stepped t size e s → s .answer .number ≡ 0 → byName e ≡ true → Matched s
   matched s (kept w) h named = absurd (refused-not-0 w h)
@@ -259,21 +257,21 @@ module _ (t : Table) (all : Full t) (e : Event) where
     result-signal k i at = let five : ruleOf (e .kind) ≡ On PickupResult = rw kind in let both : On k ≡ On PickupResult = sym (at .rule) ∙ five in cc both
 
     abbrev Holding : Step → Type 0
-    Holding s = (x : AtOnePlace t s) → recordAt t (x .index) .state ≡ RemoteRequested
-        → (s .answer .state ≡ 5) × (s .answer .first .message ≡ 5) × (s .answer .first .connection ≡ recordAt t (x .index) .connection)
+    Holding s = recordAt t (indexAt s) .state ≡ RemoteRequested
+        → (s .answer .state ≡ 5) × (s .answer .first .message ≡ 5) × (s .answer .first .connection ≡ recordAt t (indexAt s) .connection)
 
     holding : (s : Step) → Stepped t size e s → s .answer .number ≡ 0 → Holding s
-    holding s (kept w) h x q = absurd (refused-not-0 w h)
-    holding s (begun d i sound rule room) h x q =
+    holding s (kept w) h q = absurd (refused-not-0 w h)
+    holding s (begun d i sound rule room) h q =
         let five : ruleOf (e .kind) ≡ On PickupResult = rw kind in absurd (let z : _≡_ {A = ℕ} 0 1 = cc (sym rule ∙ five) in omega arith)
-    holding s (ended k i first second at turn) h x q =
-        let same : x .index ≡ i = sym (same-index i (x .index) (at .inside) (x .inside) (x .place)) in
+    holding s (ended k i first second at turn) h q =
+        let same : indexOf (placeAt i .0) ≡ i = place-index i (at .inside) in
         let k-is = result-signal k i at in
         let t5 : turnOn PickupResult (sideAt i) (recordAt t i) e ≡ Freed first second = rw k-is at turn in
         ⊎-elim (λ g. absurd (let z : _≡_ {A = ℕ} 0 1 = cc (sym t5 ∙ g) in omega arith)) (λ g. absurd (let z : _≡_ {A = ℕ} 0 1 = cc (sym t5 ∙ g) in omega arith))
         (result-in-4 (sideAt i) (recordAt t i) e (rw same at q))
-    holding s (went-on k i g n m at turn) h x q =
-        let same : x .index ≡ i = sym (same-index i (x .index) (at .inside) (x .inside) (x .place)) in
+    holding s (went-on k i g n m at turn) h q =
+        let same : indexOf (placeAt i .0) ≡ i = place-index i (at .inside) in
         let k-is = result-signal k i at in
         let t5 : turnOn PickupResult (sideAt i) (recordAt t i) e ≡ Becomes g n m = rw k-is at turn in
         ⊎-elim (λ w. absurd (let z : _≡_ {A = ℕ} 0 1 = cc (sym t5 ∙ w) in omega arith))

@@ -15,10 +15,10 @@ use Rattle.table.specs.declared.State.the-variants.{Free, ParkWaiting, LineWait
 use Rattle.table.specs.declared.Side.{Side}
 use Rattle.table.specs.declared.Side.the-variants.{Position, Line}
 use Rattle.table.specs.declared.Table.{Table}
-use Rattle.table.specs.Places.{stateNumber, isFree, waitingOn, placeAt, sideAt, noPlace, noConnection, noInvoke, noCall, recordAt, rankAt, positionCount, placeCount}
+use Rattle.table.specs.Places.{stateNumber, isFree, waitingOn, placeAt, indexOf, sideAt, noPlace, noConnection, noInvoke, noCall, recordAt, rankAt, positionCount, placeCount}
 use Rattle.table.specs.Timers.{startedSet, stoppedSet}
 use Rattle.table.specs.Search.{holds, isAt}
-use Rattle.table.specs.Ranks.{callsOn, lowered}
+use Rattle.table.specs.Ranks.{callsOn, lowered, Change, comes, goes, neither, changeOf}
 use Rattle.table.specs.Sound.{isSound}
 use Rattle.events.specs.declared.Event.{Event}
 use Rattle.events.specs.declared.Answer.{Answer}
@@ -71,34 +71,37 @@ pub data Move : State → State → Type 0 where
   ends : {before : State} → offered before ≡ true → Move before Free
   is-left : Move HandedOver Free
 
--- the rank of a place that was free or not and is free or not, on a side that had n calls
-abbrev pub rankOf : Bool → Bool → ℕ → ℕ → ℕ
-rankOf true true n rank = 0
-rankOf true false n rank = n + 1
-rankOf false true n rank = 0
-rankOf false false n rank = rank
+-- the rank of a place by what becomes of its call, on a side that had n calls
+abbrev pub rankOf : Change → ℕ → ℕ → ℕ
+rankOf comes n rank = n + 1
+rankOf goes n rank = 0
+rankOf neither n rank = rank
 
--- all that an accepted event does is at one place, but for ranks: from table t the step s
+-- the index of the place that the answer names
+abbrev pub indexAt : Step → ℕ
+indexAt s = indexOf (s .answer .place .0)
+
+-- all that an accepted event does is at the place of its answer, but for ranks: from table t the step s
 pub record AtOnePlace (t : Table) (s : Step) : Type 0 where
-  pub index : ℕ
-  pub inside : index < placeCount
-  pub place : s .answer .place ≡ placeAt index
+  pub inside : indexAt s < placeCount
+  pub place : s .answer .place ≡ placeAt (indexAt s)
   -- the other places change in their rank alone, and only when the place is freed: "higher ranks on that side drop by one" (document 02, Q-4)
-  pub others : (j : ℕ) → (j ≡ index → ⊥) → recordAt (s .table) j ≡ recordAt t j
-  pub ranks-stay : isFree (recordAt (s .table) index .state) ≡ false → (j : ℕ) → (j ≡ index → ⊥) → rankAt (s .table) j ≡ rankAt t j
-  pub ranks-drop : isFree (recordAt (s .table) index .state) ≡ true → (j : ℕ) → j < placeCount → (j ≡ index → ⊥)
-      → rankAt (s .table) j ≡ lowered (sideAt index) (rankAt t index) j (rankAt t j)
+  pub others : (j : ℕ) → (j ≡ indexAt s → ⊥) → recordAt (s .table) j ≡ recordAt t j
+  pub ranks-stay : isFree (recordAt (s .table) (indexAt s) .state) ≡ false → (j : ℕ) → (j ≡ indexAt s → ⊥) → rankAt (s .table) j ≡ rankAt t j
+  pub ranks-drop : isFree (recordAt (s .table) (indexAt s) .state) ≡ true → (j : ℕ) → j < placeCount → (j ≡ indexAt s → ⊥)
+      → rankAt (s .table) j ≡ lowered (sideAt (indexAt s)) (rankAt t (indexAt s)) j (rankAt t j)
   -- a call that comes is the last of its side, keeps its rank as long as it is held, and leaves none behind
-  pub rank : rankAt (s .table) index ≡ rankOf (isFree (recordAt t index .state)) (isFree (recordAt (s .table) index .state)) (callsOn t (sideAt index)) (rankAt t index)
+  pub rank : rankAt (s .table) (indexAt s)
+      ≡ rankOf (changeOf (isFree (recordAt t (indexAt s) .state)) (isFree (recordAt (s .table) (indexAt s) .state))) (callsOn t (sideAt (indexAt s))) (rankAt t (indexAt s))
   -- the answer's state is the one after the event
-  pub state : s .answer .state ≡ stateNumber (recordAt (s .table) index .state)
-  pub move : Move (recordAt t index .state) (recordAt (s .table) index .state)
+  pub state : s .answer .state ≡ stateNumber (recordAt (s .table) (indexAt s) .state)
+  pub move : Move (recordAt t (indexAt s) .state) (recordAt (s .table) (indexAt s) .state)
   -- a stay has one call: the answer's is the record's, before and after
-  pub call-before : isFree (recordAt t index .state) ≡ false → recordAt t index .call ≡ s .answer .call
-  pub call-after : isFree (recordAt (s .table) index .state) ≡ false → recordAt (s .table) index .call ≡ s .answer .call
+  pub call-before : isFree (recordAt t (indexAt s) .state) ≡ false → recordAt t (indexAt s) .call ≡ s .answer .call
+  pub call-after : isFree (recordAt (s .table) (indexAt s) .state) ≡ false → recordAt (s .table) (indexAt s) .call ≡ s .answer .call
   -- the timers are those of the two entries
-  pub started : s .answer .started ≡ startedSet (sideAt index) (recordAt t index .state) (recordAt (s .table) index .state)
-  pub stopped : s .answer .stopped ≡ stoppedSet (sideAt index) (recordAt t index .state) (recordAt (s .table) index .state)
+  pub started : s .answer .started ≡ startedSet (sideAt (indexAt s)) (recordAt t (indexAt s) .state) (recordAt (s .table) (indexAt s) .state)
+  pub stopped : s .answer .stopped ≡ stoppedSet (sideAt (indexAt s)) (recordAt t (indexAt s) .state) (recordAt (s .table) (indexAt s) .state)
 
 -- `accepted-at-one-place`
 abbrev pub AcceptedAtOnePlace : Type 0
@@ -136,7 +139,7 @@ byName e = namesCall (ruleOf (e .kind)) e
 -- `matched-by-call`: an accepted event that names a call touches the place that holds that call, and its answer carries it
 abbrev pub MatchedByCall : Type 0
 MatchedByCall = (t : Table) (e : Event) → Full t → IsAccepted t e → byName e ≡ true
-    → (x : AtOnePlace t (stepOf t e)) → (holds (e .call) (recordAt t (x .index)) ≡ true) × (stepOf t e .answer .call ≡ e .call)
+    → (holds (e .call) (recordAt t (indexAt (stepOf t e))) ≡ true) × (stepOf t e .answer .call ≡ e .call)
 
 -- `not-held-is-5`: a call that is in no place is refused by 5, whatever stands anywhere
 abbrev pub NotHeldIs5 : Type 0
@@ -188,8 +191,9 @@ ReleaseFrees = (t : Table) (e : Event) → Full t → isSound t ≡ true → (e 
 -- is told
 abbrev pub RemoteResultHolds : Type 0
 RemoteResultHolds = (t : Table) (e : Event) → Full t → IsAccepted t e → e .kind ≡ 5
-    → (x : AtOnePlace t (stepOf t e)) → recordAt t (x .index) .state ≡ RemoteRequested
-    → (stepOf t e .answer .state ≡ 5) × (stepOf t e .answer .first .message ≡ 5) × (stepOf t e .answer .first .connection ≡ recordAt t (x .index) .connection)
+    → recordAt t (indexAt (stepOf t e)) .state ≡ RemoteRequested
+    → (stepOf t e .answer .state ≡ 5) × (stepOf t e .answer .first .message ≡ 5)
+    × (stepOf t e .answer .first .connection ≡ recordAt t (indexAt (stepOf t e)) .connection)
 
 -- ---- the picker who waits for a reply (document 02, Q-1)
 
@@ -238,7 +242,7 @@ Waits t a i = isAt a (waitingOn a) i (recordAt t i) ≡ true
 -- `takes-first`: with choice 1 or 2 an accepted pickup is for a call that waits on that side, and none that waits there has a lower rank
 abbrev pub TakesFirst : Type 0
 TakesFirst = (t : Table) (e : Event) (a : Side) → Full t → IsAccepted t e → (e .kind ≡ 3) ⊎ (e .kind ≡ 4) → e .choice ≡ choiceOf a
-    → (x : AtOnePlace t (stepOf t e)) → Waits t a (x .index) × ((j : ℕ) → j < placeCount → Waits t a j → rankAt t (x .index) ≤ rankAt t j)
+    → Waits t a (indexAt (stepOf t e)) × ((j : ℕ) → j < placeCount → Waits t a j → rankAt t (indexAt (stepOf t e)) ≤ rankAt t j)
 
 -- ---- how large an answer's numbers are
 

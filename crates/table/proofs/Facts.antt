@@ -2,7 +2,7 @@
 -- into what it says of each index, and each test into its fact.
 use mathlib.Core.Path.{_≡_, refl, sym, ap, _∙_}
 use mathlib.Core.Bool.{Bool, true, false, not}
-use mathlib.Core.Logic.{_↔_, ⊎-elim}
+use mathlib.Core.Logic.{⊎-elim}
 use Prim.Native.Nat.{ℕ, _-_, _<_, _≤_}
 use native.Mathlib.Omega.{arith}
 use lib.Dec.{eqb}
@@ -20,7 +20,7 @@ use Rattle.table.specs.declared.Table.{Table}
 use Rattle.table.specs.Places.{stateNumber, isFree, sideAt, noCall, noConnection, freeRecord, emptyTable, recordAt, rankAt, placeCount}
 use Rattle.table.specs.Search.{sameCall, holds}
 use Rattle.table.specs.Ranks.{callsOn, rankIn, rankFits, ranksDiffer, rankSound, isRanked}
-use Rattle.table.specs.Sound.{fitsSide, allZeros, tidyIn, clash, recordFits, callsDiffer, recordSound, recordsSound, isSound, Sound}
+use Rattle.table.specs.Sound.{fitsSide, allZeros, tidyIn, clash, recordFits, callsDiffer, recordSound, recordsSound, isSound, Sound, TestIsFacts}
 use Rattle.table.specs.Status.{StatusOfTwo}
 use Rattle.table.proofs.States.{free-state}
 use Rattle.table.proofs.RankLaws.{alike, differ}
@@ -178,9 +178,9 @@ module _ (t : Table) where
         and-both (rank-made (isFree (recordAt t i .state)) (callsOn t (sideAt i)) (rankAt t i) (s .ranked-if-held i h) (s .rank-to-n i h))
         (below-make (ranksDiffer t i) i (λ j lt. apart-ranks i j lt h))))
 
-  -- THE TWO ARE ONE
-  pub test-is-facts : (isSound t ≡ true) ↔ Sound t
-  test-is-facts = (facts-of-test, test-of-facts)
+-- THE TWO ARE ONE
+pub test-is-facts : TestIsFacts
+test-is-facts t = (facts-of-test t, test-of-facts t)
 
 pub empty-sound : isSound emptyTable ≡ true
 unfolding below

@@ -1,6 +1,6 @@
 -- A table with one record put anew: what stands at its places, what becomes of the ranks, and when it is sound.
 use mathlib.Core.Path.{_≡_, refl, sym, ap, _∙_}
-use mathlib.Core.Bool.{Bool, true, false, cond, not, _&&_}
+use mathlib.Core.Bool.{Bool, true, false, cond, _&&_}
 use mathlib.Core.Logic.{⊎-elim}
 use mathlib.Core.List.{List}
 use Prim.Native.Nat.{ℕ, _+_, _-_, _<_, _≤_}
@@ -16,24 +16,23 @@ use Rattle.table.specs.declared.Record.{Record}
 use Rattle.table.specs.declared.Table.{Table}
 use Rattle.table.specs.Places.{stateNumber, isFree, sameSide, sideAt, noConnection, freeRecord, blank, recordAt, rankAt, placeCount}
 use Rattle.table.specs.Sound.{fitsSide, Sound}
-use Rattle.table.specs.Ranks.{heldOn, callsOn, lowered, closedUp, reranked, put}
+use Rattle.table.specs.Ranks.{heldOn, callsOn, lowered, closedUp, Change, comes, goes, neither, changeOf, reranked, put}
 use Rattle.table.proofs.Sides.{same-side, other-side}
-use Rattle.table.proofs.RankLaws.{total-set, closed-size, closed-below, Drops, drops, keeps, aside, drops-view}
+use Rattle.table.proofs.RankLaws.{total-set, closed-size, closed-at, Drops, drops, keeps, aside, drops-view}
 
 -- the record that was there, put again
 pub put-same : (t : Table) (i : ℕ) → put t i (recordAt t i) ≡ t
 put-same t i = by (isFree (recordAt t i .state))
   where
-    by : (b : Bool) → record { places = set (t .places) i (recordAt t i); ranks = reranked t i b b } ≡ t
+    by : (b : Bool) → record { places = set (t .places) i (recordAt t i); ranks = reranked t i (changeOf b b) } ≡ t
     by true = λ j. record { places = set-getD (t .places) i blank j; ranks = t .ranks }
     by false = λ j. record { places = set-getD (t .places) i blank j; ranks = t .ranks }
 
 -- there are as many ranks as before
-pub reranked-wide : (t : Table) (i : ℕ) → length (t .ranks) ≡ placeCount → (before after : Bool) → length (reranked t i before after) ≡ placeCount
-reranked-wide t i wide true true = wide
-reranked-wide t i wide true false = length-set (t .ranks) i _ ∙ wide
-reranked-wide t i wide false true = length-set (closedUp (λ j. j) (sideAt i) (rankAt t i) placeCount (t .ranks)) i _ ∙ closed-size (λ j. j) (sideAt i) (rankAt t i) placeCount (t .ranks) ∙ wide
-reranked-wide t i wide false false = wide
+pub reranked-wide : (t : Table) (i : ℕ) → length (t .ranks) ≡ placeCount → (c : Change) → length (reranked t i c) ≡ placeCount
+reranked-wide t i wide comes = length-set (t .ranks) i _ ∙ wide
+reranked-wide t i wide goes = length-set (closedUp (sideAt i) (rankAt t i) (t .ranks)) i _ ∙ closed-size (sideAt i) (rankAt t i) (t .ranks) ∙ wide
+reranked-wide t i wide neither = wide
 
 module _ (t : Table) (size : length (t .places) ≡ placeCount) (i : ℕ) (inside : i < placeCount) (r : Record) where
   pub put-size : length (put t i r .places) ≡ placeCount
@@ -60,7 +59,7 @@ module _ (t : Table) (size : length (t .places) ≡ placeCount) (i : ℕ) (insid
 
   module _ (wide : length (t .ranks) ≡ placeCount) where
     pub put-wide : length (put t i r .ranks) ≡ placeCount
-    put-wide = reranked-wide t i wide (isFree (recordAt t i .state)) (isFree (r .state))
+    put-wide = reranked-wide t i wide (changeOf (isFree (recordAt t i .state)) (isFree (r .state)))
 
     -- a place that is not freed: it has a rank as before, or the next of its side, and the others keep theirs
     module _ (is : isFree (r .state) ≡ false) where
@@ -73,20 +72,20 @@ module _ (t : Table) (size : length (t .places) ≡ placeCount) (i : ℕ) (insid
       pub ranks-stay : (j : ℕ) → (j ≡ i → ⊥) → rankAt (put t i r) j ≡ rankAt t j
       ranks-stay j ne = rw is (by (isFree (recordAt t i .state)))
         where
-          by : (b : Bool) → getD (reranked t i b false) j 0 ≡ rankAt t j
+          by : (b : Bool) → getD (reranked t i (changeOf b false)) j 0 ≡ rankAt t j
           by true = getD-set-other (t .ranks) i j (callsOn t (sideAt i) + 1) 0 ne
           by false = refl
 
     -- a place that is freed
     module _ (was : isFree (recordAt t i .state) ≡ false) (is : isFree (r .state) ≡ true) where
       abbrev closed : List ℕ
-      closed = closedUp (λ j. j) (sideAt i) (rankAt t i) placeCount (t .ranks)
+      closed = closedUp (sideAt i) (rankAt t i) (t .ranks)
 
       pub rank-freed : rankAt (put t i r) i ≡ 0
-      rank-freed = rw (was, is) (getD-set-same closed i 0 0 (omega (arith, closed-size (λ j. j) (sideAt i) (rankAt t i) placeCount (t .ranks))))
+      rank-freed = rw (was, is) (getD-set-same closed i 0 0 (omega (arith, closed-size (sideAt i) (rankAt t i) (t .ranks))))
 
       pub ranks-drop : (j : ℕ) → j < placeCount → (j ≡ i → ⊥) → rankAt (put t i r) j ≡ lowered (sideAt i) (rankAt t i) j (rankAt t j)
-      ranks-drop j h ne = rw (was, is) (getD-set-other closed i j _ 0 ne ∙ closed-below (λ j. j) (sideAt i) (rankAt t i) (λ x y e. e) placeCount (t .ranks) j h (omega arith))
+      ranks-drop j h ne = rw (was, is) (getD-set-other closed i j _ 0 ne ∙ closed-at (sideAt i) (rankAt t i) (t .ranks) j (omega arith))
 
   module _ (wide : length (t .ranks) ≡ placeCount) (S : Sound t) where
     -- what a sound table has of ranks

@@ -1,17 +1,17 @@
 -- Laws of ranks: the calls of a side after a record is put anew, what becomes of each rank, and who is served next.
-use mathlib.Core.Path.{_≡_, refl, sym, ap, ap₂, subst, _∙_}
+use mathlib.Core.Path.{_≡_, refl, sym, ap, subst, _∙_}
 use mathlib.Core.Bool.{Bool, true, false, cond, not, _&&_}
 use mathlib.Core.List.{List, [], _∷_}
 use mathlib.Core.Logic.{_⊎_, ⊎-elim}
 use Prim.Native.Nat.{ℕ, zero, suc, _+_, _-_, _<_, _≤_}
-use native.Mathlib.Nat.{add-zero, not-suc-le-zero, le-of-suc-le-suc}
+use native.Mathlib.Nat.{zero-add, add-zero, not-suc-le-zero, le-of-suc-le-suc}
 use native.Mathlib.Numerals.{add-one}
 use native.Mathlib.Omega.{arith}
 use lib.Dec.{eqb}
 use borrow.Author.Tests.{eqb-true, eqb-false, eq-eqb, ne-eqb, lt-ltb, le-ltb}
-use lib.ListN.{length, getD, set, length-set}
-use lib.Seq.{getD-set-same, getD-set-other, set-getD}
+use lib.ListN.{length, getD, set}
 use Rattle.laws.proofs.Bools.{not-both, equal-or, less-or}
+use Rattle.laws.proofs.Lists.{mapped-size, mapped-at}
 use Rattle.table.specs.declared.Side.{Side}
 use Rattle.table.specs.declared.Record.{Record}
 use Rattle.table.specs.declared.Table.{Table}
@@ -96,50 +96,14 @@ module _ (a : Side) (k j r : ℕ) where
 
 -- ---- ranks that close up
 
--- in a list in which no two ranks stand at one index
-module _ (at : ℕ → ℕ) (a : Side) (k : ℕ) where
-  pub closed-none : (l : List ℕ) → closedUp at a k 0 l ≡ l
+module _ (a : Side) (k : ℕ) (l : List ℕ) where
+  pub closed-size : length (closedUp a k l) ≡ length l
   unfolding closedUp
-  closed-none l = refl
+  closed-size = mapped-size (lowered a k) 0 l
 
-  pub closed-more : (n : ℕ) (l : List ℕ) → closedUp at a k (n + 1) l ≡ set (closedUp at a k n l) (at n) (lowered a k n (getD l (at n) 0))
+  pub closed-at : (j : ℕ) → j < length l → getD (closedUp a k l) j 0 ≡ lowered a k j (getD l j 0)
   unfolding closedUp
-  closed-more n l = ap (λ (m : ℕ). closedUp at a k m l) (add-one n)
-
-  pub closed-size : (n : ℕ) (l : List ℕ) → length (closedUp at a k n l) ≡ length l
-  unfolding closedUp
-  closed-size zero l = refl
-  closed-size (suc n) l = length-set (closedUp at a k n l) (at n) _ ∙ closed-size n l
-
-  module _ (apart : (i j : ℕ) → at i ≡ at j → i ≡ j) where
-    -- the ranks of later places are as they were
-    pub closed-above : (n : ℕ) (l : List ℕ) (j : ℕ) → n ≤ j → getD (closedUp at a k n l) (at j) 0 ≡ getD l (at j) 0
-    unfolding closedUp
-    closed-above zero l j h = refl
-    closed-above (suc n) l j h =
-        getD-set-other (closedUp at a k n l) (at n) (at j) _ 0 (λ e. absurd (omega (arith, apart j n e))) ∙ closed-above n l j (omega arith)
-
-    pub closed-below : (n : ℕ) (l : List ℕ) (j : ℕ) → j < n → at j < length l → getD (closedUp at a k n l) (at j) 0 ≡ lowered a k j (getD l (at j) 0)
-    unfolding closedUp
-    closed-below zero l j h w = absurd (not-suc-le-zero h)
-    closed-below (suc n) l j h w =
-        ⊎-elim
-        (λ same. rw same (getD-set-same (closedUp at a k n l) (at n) _ 0 (omega (arith, closed-size n l, ap at same))))
-        (λ other. getD-set-other (closedUp at a k n l) (at n) (at j) _ 0 (λ e. other (apart j n e)) ∙ closed-below n l j (omega arith) w)
-        (equal-or j n)
-
-    -- places of the other side add nothing
-    pub closed-rest : (n m : ℕ) (l : List ℕ) → n ≤ m → ((j : ℕ) → n ≤ j → j < m → sideAt j ≡ a → ⊥) → closedUp at a k m l ≡ closedUp at a k n l
-    unfolding closedUp
-    closed-rest n zero l h other = let none : n ≡ 0 = omega arith in rw none
-    closed-rest n (suc m) l h other =
-        ⊎-elim
-        (λ past. rw past)
-        (λ more.
-        ap₂ (λ (x : List ℕ) (r : ℕ). set x (at m) r) (closed-rest n m l (omega arith) (λ j low high. other j low (omega arith)))
-        (lowered-aside a k m (getD l (at m) 0) (other m (omega arith) (omega arith)) ∙ sym (closed-above n l m (omega arith)))
-        ∙ set-getD (closedUp at a k n l) (at m) 0)
-        (equal-or n (suc m))
+  closed-at j h = mapped-at (lowered a k) 0 0 0 l j h ∙ ap (λ (n : ℕ). lowered a k n (getD l j 0)) (zero-add j)
 
 -- ---- the waiting call that came first
 

@@ -4,8 +4,8 @@ use mathlib.Core.Bool.{Bool, true, false, cond, not, _&&_}
 use mathlib.Core.List.{List}
 use Prim.Native.Nat.{ℕ, zero, suc, _+_, _-_}
 use lib.Dec.{eqb, ltb, leb}
-use lib.ListN.{getD, set}
-use Rattle.laws.specs.Lists.{below}
+use lib.ListN.{set}
+use Rattle.laws.specs.Lists.{mapped, below}
 use Rattle.table.specs.declared.Side.{Side}
 use Rattle.table.specs.declared.Record.{Record}
 use Rattle.table.specs.declared.Table.{Table}
@@ -69,20 +69,30 @@ movedUp k r = cond (ltb k r) (r - 1) r
 abbrev pub lowered : Side → ℕ → ℕ → ℕ → ℕ
 lowered a k j r = cond (sameSide (sideAt j) a) (movedUp k r) r
 
--- A list in which the rank of place j stands at index `at j`, those of the first n places lowered. In a table that is index j; the image has it
--- among other octets.
-unfoldable pub closedUp : (ℕ → ℕ) → Side → ℕ → ℕ → List ℕ → List ℕ
-closedUp at a k zero l = l
-closedUp at a k (suc n) l = set (closedUp at a k n l) (at n) (lowered a k n (getD l (at n) 0))
+-- the ranks of a table, each of them so
+unfoldable pub closedUp : Side → ℕ → List ℕ → List ℕ
+closedUp a k ranks = mapped (lowered a k) 0 ranks
 
--- the ranks when the place at an index, free or not, becomes free or not: a new call is the last of its side; "when a place is freed, higher ranks
--- on that side drop by one"; "A call sent back to waiting keeps its rank."
-abbrev pub reranked : Table → ℕ → Bool → Bool → List ℕ
-reranked t i true true = t .ranks
-reranked t i true false = set (t .ranks) i (callsOn t (sideAt i) + 1)
-reranked t i false true = set (closedUp (λ j. j) (sideAt i) (rankAt t i) placeCount (t .ranks)) i 0
-reranked t i false false = t .ranks
+-- what becomes of the call at a place: one comes, it goes, or neither
+pub data Change : Type 0 where
+  comes : Change
+  goes : Change
+  neither : Change
+
+-- .. of a place that was free or not, and is free or not
+abbrev pub changeOf : Bool → Bool → Change
+changeOf true false = comes
+changeOf false true = goes
+changeOf true true = neither
+changeOf false false = neither
+
+-- the ranks after it: a new call is the last of its side; "when a place is freed, higher ranks on that side drop by one"; "A call sent back to
+-- waiting keeps its rank."
+abbrev pub reranked : Table → ℕ → Change → List ℕ
+reranked t i comes = set (t .ranks) i (callsOn t (sideAt i) + 1)
+reranked t i goes = set (closedUp (sideAt i) (rankAt t i) (t .ranks)) i 0
+reranked t i neither = t .ranks
 
 -- the table with a record put anew at an index
 abbrev pub put : Table → ℕ → Record → Table
-put t i r = record { places = set (t .places) i r; ranks = reranked t i (isFree (recordAt t i .state)) (isFree (r .state)) }
+put t i r = record { places = set (t .places) i r; ranks = reranked t i (changeOf (isFree (recordAt t i .state)) (isFree (r .state))) }

@@ -1,7 +1,8 @@
 -- When a table is sound (document 01, "A table is sound when: .."; document 02, Q-4): the test that the code runs, and the same as facts by
--- place, four of the paper's and three of the request. `proofs/Facts.antt` shows that the two are equal; later proofs cite the facts.
+-- place, four of the paper's and three of the request. The two are one (`TestIsFacts`); later proofs cite the facts.
 use mathlib.Core.Path.{_≡_}
 use mathlib.Core.Bool.{Bool, true, false, not, _&&_}
+use mathlib.Core.Logic.{_↔_}
 use Prim.Native.Nat.{ℕ, _<_, _≤_}
 use lib.Dec.{eqb}
 use lib.ListN.{length}
@@ -66,6 +67,10 @@ pub record Sound (t : Table) : Type 0 where
   -- .. to n
   pub rank-to-n : (i : ℕ) → i < placeCount → rankAt t i ≤ callsOn t (sideAt i)
   pub one-rank : (i j : ℕ) → i < placeCount → j < placeCount → sideAt i ≡ sideAt j → (rankAt t i ≡ 0 → ⊥) → rankAt t i ≡ rankAt t j → i ≡ j
+
+-- `test-is-facts`: the test holds exactly when the facts do, of any table
+abbrev pub TestIsFacts : Type 0
+TestIsFacts = (t : Table) → (isSound t ≡ true) ↔ Sound t
 
 -- `every-rank`: "exactly 1 to n": each of the numbers is the rank of a place of the side
 abbrev pub EveryRank : Type 0

@@ -1,4 +1,4 @@
--- The line is read, and its event stepped; at the image of a sound table that is the machine's step (`line-kept`).
+-- The line is read, and its event stepped; at the image of a sound table that is the machine's step (`line-by`).
 use mathlib.Core.Path.{_≡_, sym, ap, _∙_}
 use mathlib.Core.Bool.{true, false}
 use native.Mathlib.Omega.{arith}
@@ -9,7 +9,7 @@ use Rattle.events.specs.Answers.{saying}
 use Rattle.lines.specs.declared.ReadEvent.{ReadEvent}
 use Rattle.lines.specs.EventLine.{readLine}
 use Rattle.lent.specs.Lent.{eventAnswer, eventImage}
-use Rattle.lent.proofs.Kept.{image-long, line-kept}
+use Rattle.lent.proofs.Kept.{image-long, line-by}
 use borrow.Author.Needs.{needs}
 use Rattle.lent.proofs.step_line.Statement.{statement}
 use Rattle.lent.proofs.step_line.Tie as tie
@@ -19,8 +19,8 @@ read-event-requires c κs = search needs
 
 act-on-requires : tie.Need-act-on-requires
 act-on-requires c κs =
-    let z = c .before .before .before .before .before .before in
-    image-long (z .before .args .image .now) (λ j. omega (arith, z .slice-known .given j)) (z .before .pre)
+    let z = c .before .before .before .before .before .before .before in
+    image-long (z .args .image .now) (z .pre)
 
 only-number-requires : tie.Need-only-number-requires
 only-number-requires c κs = search needs
@@ -37,7 +37,7 @@ returns c =
     let s = z .before .args in
     let same = k .read-event .ensures in
     let reads : eqb (readLine (s .line .now) .number) 0 ≡ true = ap (λ (x : ReadEvent). eqb (x .number) 0) (sym same) ∙ eq-eqb _ 0 (i .if1 .taken) in
-    let kept = line-kept (s .image .now) (λ j. omega (arith, z .slice-known .given j)) (z .before .pre) (s .line .now) true reads in (
+    let kept = line-by (s .image .now) (λ j h. omega (arith, z .slice-known .given j)) (z .before .pre) (s .line .now) true reads in (
       r .act-on .ensures .0 ∙ ap (λ (x : ReadEvent). eventAnswer (s .image .now) (x .event)) same ∙ kept .0,
       r .act-on .ensures .1 ∙ ap (λ (x : ReadEvent). eventImage (s .image .now) (x .event)) same ∙ kept .1,
     )
@@ -50,7 +50,7 @@ returns-2 c =
     let s = z .before .args in
     let same = k .read-event .ensures in
     let refused : eqb (readLine (s .line .now) .number) 0 ≡ false = ap (λ (x : ReadEvent). eqb (x .number) 0) (sym same) ∙ ne-eqb _ 0 (i .if1 .left) in
-    let kept = line-kept (s .image .now) (λ j. omega (arith, z .slice-known .given j)) (z .before .pre) (s .line .now) false refused in
+    let kept = line-by (s .image .now) (λ j h. omega (arith, z .slice-known .given j)) (z .before .pre) (s .line .now) false refused in
     (c .only-number .ensures ∙ ap (λ (x : ReadEvent). saying (x .number) NoMessage) same ∙ kept .0, kept .1)
 
 pub step-line-spec : {M : Type 1} → statement M

@@ -26,7 +26,7 @@ returns c =
     let good : isSoundImage (s .image .now) ≡ true = sym (z .before .pre) ∙ i .if1 .taken in (
       r .step-line .ensures .0,
       r .step-line .ensures .1,
-      i .if1 .taken ∙ sym (stays-read (s .image .now) (s .line .now) (λ j. omega (arith, z .slice-known .given j)) good),
+      i .if1 .taken ∙ sym (stays-read (s .image .now) (s .line .now) (λ j h. omega (arith, z .slice-known .given j)) good),
     )
 
 returns-2 : tie.Need-returns-2

@@ -11,7 +11,7 @@ use Rattle.image.specs.Image.{recordFrom}
 use Rattle.image.specs.Quick.{runAt}
 use Rattle.image.proofs.WordLaws.{run-four-zero, first-word, second-word, long-call, call-octets}
 use Rattle.image.proofs.WordLaws.{first-differs, second-decides, zero-octets, first-zero, second-zero}
-use Rattle.image.proofs.Round.{Octets}
+use Rattle.image.specs.Round.{Octets}
 use borrow.Author.Needs.{needs}
 use Rattle.lent.proofs.sound.all_zeros.Statement.{statement}
 use Rattle.lent.proofs.sound.all_zeros.Tie as tie

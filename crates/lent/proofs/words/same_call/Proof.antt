@@ -9,7 +9,7 @@ use lib.ListN.{length, take, drop}
 use borrow.Author.Tests.{eqb-true, eqb-false, eq-eqb, ne-eqb}
 use Rattle.table.specs.Search.{sameCall}
 use Rattle.image.specs.Quick.{lowFirst, runAt}
-use Rattle.image.proofs.Round.{Octets}
+use Rattle.image.specs.Round.{Octets}
 use Rattle.image.proofs.WordLaws.{first-word, second-word, long-call, call-octets, first-differs, second-decides}
 use borrow.Author.Needs.{needs}
 use Rattle.lent.proofs.words.same_call.Statement.{statement}
