@@ -3,13 +3,13 @@
 -- in rising order that have the same elements are equal (`one-order`).
 use mathlib.Core.Path.{_≡_, refl, sym, ap, subst, _∙_}
 use mathlib.Core.Logic.{_⊎_, inl, inr, ⊎-elim}
-use mathlib.Core.Bool.{Bool, true, false}
+use mathlib.Core.Bool.{Bool, true, false, cond}
 use mathlib.Core.List.{List, [], _∷_, _++_, map, List·Memᴰ, List·Memᴰ·head, List·Memᴰ·tail, List·Memᴰ·cases-cons, List·Memᴰ·not-nil, Memᴰ·append-left, Memᴰ·append-right, List·Memᴰ·append-cases, nil≢cons, head-eq-of-cons-eq, tail-eq-of-cons-eq}
 use Prim.Native.Nat.{ℕ, _<_}
 use native.Mathlib.Omega.{arith}
 use lib.Dec.{eqb}
 use borrow.Author.Tests.{eqb-true, eqb-false, eq-eqb, ne-eqb}
-use Rattle.stays.specs.Stays.{Every, BeginsBy, joined, keep}
+use Rattle.stays.specs.Stays.{Every, BeginsBy, joined}
 use Rattle.stays.specs.Arranged.{Numbered, Arrangement, Rising, acts, firstNumber, lastNumber, allOf, at, StayByStay}
 use Rattle.stays.proofs.Lists.{every-at, every-append, every-so, every-map}
 
@@ -82,7 +82,7 @@ module _ {X : Type 0} (place : X → ℕ) where
   at-append p [] ys = refl
   at-append p (x ∷ xs) ys = by (eqb (place (x .act)) p) (at-append p xs ys)
     where
-      by : (b : Bool) → at place p (xs ++ ys) ≡ at place p xs ++ at place p ys → keep b x (at place p (xs ++ ys)) ≡ keep b x (at place p xs) ++ at place p ys
+      by : (b : Bool) → at place p (xs ++ ys) ≡ at place p xs ++ at place p ys → cond b (x ∷ at place p (xs ++ ys)) (at place p (xs ++ ys)) ≡ cond b (x ∷ at place p xs) (at place p xs) ++ at place p ys
       by true e = ap (λ l. x ∷ l) e
       by false e = e
 
@@ -105,13 +105,13 @@ module _ {X : Type 0} (place : X → ℕ) where
 
   abbrev staysAt : ℕ → List (List (Numbered X)) → List (List (Numbered X))
   staysAt p [] = []
-  staysAt p (s ∷ ss) = keep (eqb (placeOf s) p) s (staysAt p ss)
+  staysAt p (s ∷ ss) = cond (eqb (placeOf s) p) (s ∷ staysAt p ss) (staysAt p ss)
 
   at-joined : (p : ℕ) (ss : List (List (Numbered X))) → Every (λ s. AllAt (placeOf s) s) ss → at place p (joined ss) ≡ joined (staysAt p ss)
   at-joined p [] h = refl
   at-joined p (s ∷ ss) h = at-append p s (joined ss) ∙ by (eqb (placeOf s) p) refl (at-joined p ss (h .1))
     where
-      by : (b : Bool) → eqb (placeOf s) p ≡ b → at place p (joined ss) ≡ joined (staysAt p ss) → at place p s ++ at place p (joined ss) ≡ joined (keep b s (staysAt p ss))
+      by : (b : Bool) → eqb (placeOf s) p ≡ b → at place p (joined ss) ≡ joined (staysAt p ss) → at place p s ++ at place p (joined ss) ≡ joined (cond b (s ∷ staysAt p ss) (staysAt p ss))
       by true q e = let here : at place p s ≡ s = at-all p s (subst (λ n. AllAt n s) (eqb-true (placeOf s) p q) (h .0)) in rw (here, e)
       by false q e = let gone : at place p s ≡ [] = at-none p (placeOf s) s (h .0) (eqb-false (placeOf s) p q) in rw (gone, e)
 
@@ -119,7 +119,7 @@ module _ {X : Type 0} (place : X → ℕ) where
   staysAt-every P p [] h = tt
   staysAt-every P p (s ∷ ss) h = by (eqb (placeOf s) p) (staysAt-every P p ss (h .1))
     where
-      by : (b : Bool) → Every P (staysAt p ss) → Every P (keep b s (staysAt p ss))
+      by : (b : Bool) → Every P (staysAt p ss) → Every P (cond b (s ∷ staysAt p ss) (staysAt p ss))
       by true r = (h .0, r)
       by false r = r
 
@@ -127,7 +127,7 @@ module _ {X : Type 0} (place : X → ℕ) where
   to-place s [] i = absurd (List·Memᴰ·not-nil i)
   to-place s (u ∷ us) i = by (eqb (placeOf u) (placeOf s)) refl (List·Memᴰ·cases-cons i) (to-place s us)
     where
-      by : (b : Bool) → eqb (placeOf u) (placeOf s) ≡ b → (s ≡ u) ⊎ List·Memᴰ s us → (List·Memᴰ s us → List·Memᴰ s (staysAt (placeOf s) us)) → List·Memᴰ s (keep b u (staysAt (placeOf s) us))
+      by : (b : Bool) → eqb (placeOf u) (placeOf s) ≡ b → (s ≡ u) ⊎ List·Memᴰ s us → (List·Memᴰ s us → List·Memᴰ s (staysAt (placeOf s) us)) → List·Memᴰ s (cond b (u ∷ staysAt (placeOf s) us) (staysAt (placeOf s) us))
       by true q (inl e) rec = List·Memᴰ·head e
       by true q (inr j) rec = List·Memᴰ·tail (rec j)
       by false q (inl e) rec = absurd (eqb-false (placeOf u) (placeOf s) q (ap placeOf (sym e)))
@@ -137,7 +137,7 @@ module _ {X : Type 0} (place : X → ℕ) where
   from-place p s [] i = i
   from-place p s (u ∷ us) i = by (eqb (placeOf u) p) i (from-place p s us)
     where
-      by : (b : Bool) → List·Memᴰ s (keep b u (staysAt p us)) → (List·Memᴰ s (staysAt p us) → List·Memᴰ s us) → List·Memᴰ s (u ∷ us)
+      by : (b : Bool) → List·Memᴰ s (cond b (u ∷ staysAt p us) (staysAt p us)) → (List·Memᴰ s (staysAt p us) → List·Memᴰ s us) → List·Memᴰ s (u ∷ us)
       by true j rec = ⊎-elim (λ e. List·Memᴰ·head e) (λ k. List·Memᴰ·tail (rec k)) (List·Memᴰ·cases-cons j)
       by false j rec = List·Memᴰ·tail (rec j)
 

@@ -1,10 +1,11 @@
 -- What "rearranged stay by stay" says, in words that know of no fold: which lists of stays are an arrangement of the accepted events of a run. The
 -- events are numbered as they were accepted, so that each can be told from every other.
 use mathlib.Core.Path.{_≡_}
+use mathlib.Core.Bool.{cond}
 use mathlib.Core.List.{List, [], _∷_, _++_, map}
 use Prim.Native.Nat.{ℕ, suc, _<_}
 use lib.Dec.{eqb}
-use Rattle.stays.specs.Stays.{Every, joined, keep}
+use Rattle.stays.specs.Stays.{Every, joined}
 
 -- An accepted event, with its number in the run.
 pub record Numbered (X : Type 0) : Type 0 where
@@ -56,7 +57,7 @@ module _ {X : Type 0} where
   -- the events at a place, in their order
   abbrev pub at : (X → ℕ) → ℕ → List (Numbered X) → List (Numbered X)
   at place p [] = []
-  at place p (y ∷ ys) = keep (eqb (place (y .act)) p) y (at place p ys)
+  at place p (y ∷ ys) = cond (eqb (place (y .act)) p) (y ∷ at place p ys) (at place p ys)
 
   -- The stays of `a` are the accepted events `xs` of a run, stay by stay, where it is known which place an event is at, and which events are a
   -- stay that has ended or one that runs.
