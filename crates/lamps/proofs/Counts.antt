@@ -18,7 +18,7 @@ use Rattle.step.specs.Promises.{Move, starts, goes-on, hands-over, ends, is-lef
 use Rattle.stays.specs.Stays.{one-if, count, Stay, Stays, none, run, stays, allStays}
 use Rattle.stays.specs.ParkTable.{machine}
 use Rattle.stays.specs.Demand.{Act}
-use Rattle.stays.proofs.Same.{count-append}
+use Rattle.stays.proofs.Lists.{count-append}
 use Rattle.stays.proofs.Requester.{state-snoc}
 use Rattle.stays.proofs.Weights.{ended-weight, running-weight, weight}
 use Rattle.lamps.specs.declared.Endpoint.{Endpoint}

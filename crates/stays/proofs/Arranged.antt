@@ -18,7 +18,7 @@ use Rattle.stays.proofs.Numbers.{numberedFold, ends-rise, starts-rise, 
 use Rattle.stays.proofs.Forget.{acts-numbered, plain, forget, forget-fold}
 use Rattle.stays.proofs.Keep.{follows-all, rearranges}
 use Rattle.stays.proofs.Once.{one-result}
-use Rattle.stays.proofs.Same.{same-events}
+use Rattle.stays.proofs.Same.{same-count}
 use Rattle.stays.proofs.TableLaws.{laws}
 use Rattle.stays.proofs.EachStay.{begins-snoc, each-stay}
 
@@ -96,7 +96,7 @@ rearranged es = record {
   stays = made es;
   arranged = is-arranged es;
   only = λ a h. only-one tells (acceptedOf es) a (made es) h (is-arranged es);
-  same-events = λ f. ap (count f) (listed-are es) ∙ same-events machine laws f es;
+  same-events = λ f. same-count (machine .place) f (listed (made es)) (numbered (acceptedOf es)) (is-arranged es .same-at) ∙ ap (count f) (acts-numbered 1 (acceptedOf es));
   again = subst (λ xs. Replays machine emptyTable xs (final machine emptyTable es)) (sym (listed-are es)) (rearranges machine laws es);
   one-result =
       every-map acts (λ xs. count (machine .result) xs ≤ 1) (allOf (made es))

@@ -7,12 +7,12 @@ pub mod AtPlaces
 pub mod Ends
 pub mod Numbers
 pub mod Forget
+pub mod Same
 pub mod Laws
 pub mod Part
 pub mod Build
 pub mod Keep
 pub mod Weights
-pub mod Same
 pub mod Every
 pub mod Once
 pub mod StartRanks

@@ -1,8 +1,11 @@
--- Lists of anything: what holds of every element, and a choice that is decided.
+-- Lists of anything: what holds of every element, lists put together, a choice that is decided, and counting.
 use mathlib.Core.Path.{_≡_, refl, sym, ap, subst, _∙_}
 use mathlib.Core.Logic.{⊎-elim}
+use mathlib.Core.Bool.{Bool}
 use mathlib.Core.List.{List, [], _∷_, _++_, map, append-assoc, List·Memᴰ, List·Memᴰ·cases-cons, List·Memᴰ·not-nil}
-use Rattle.stays.specs.Stays.{whether, Every, joined}
+use Prim.Native.Nat.{_+_}
+use native.Mathlib.Omega.{arith}
+use Rattle.stays.specs.Stays.{whether, Every, joined, one-if, count}
 
 -- what holds of every element holds of each
 pub every-at : {A : Type 0} (P : A → Type 0) (a : A) (xs : List A) → Every P xs → List·Memᴰ a xs → P a
@@ -49,3 +52,11 @@ joined-append (xs ∷ xss) yss = ap (λ l. xs ++ l) (joined-append xss yss) ∙ 
 pub every-last : {A : Type 0} (P : A → Type 0) (xs : List A) (x : A) → Every P (xs ++ (x ∷ [])) → P x
 every-last P [] x h = h .0
 every-last P (y ∷ xs) x h = every-last P xs x (h .1)
+
+module _ {A : Type 0} (f : A → Bool) where
+  pub count-append : (xs ys : List A) → count f (xs ++ ys) ≡ count f xs + count f ys
+  count-append [] ys = omega arith
+  count-append (x ∷ xs) ys = omega (arith, count-append xs ys)
+
+  pub count-snoc : (xs : List A) (x : A) → count f (xs ++ (x ∷ [])) ≡ count f xs + one-if (f x)
+  count-snoc xs x = omega (arith, count-append xs (x ∷ []))

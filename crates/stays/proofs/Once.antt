@@ -10,7 +10,7 @@ use Rattle.stays.specs.Stays.{Done, Machine, one-if, count, OneResult}
 use Rattle.stays.proofs.Laws.{Laws}
 use Rattle.stays.proofs.Part.{Part, begun, onward, Whole, whole}
 use Rattle.stays.proofs.Every.{every-stay}
-use Rattle.stays.proofs.Same.{count-snoc}
+use Rattle.stays.proofs.Lists.{count-snoc}
 
 module _ (m : Machine) (l : Laws m) where
   open Machine m using (Event, Answer, result)

@@ -21,7 +21,7 @@ use Rattle.table.proofs.Keep.{put-size, put-wide, put-here, put-other, calls-pu
 use Rattle.step.specs.Promises.{Full}
 use Rattle.stays.specs.Stays.{starts, whether, one-if, count, In}
 use Rattle.stays.proofs.Places.{Distinct, without, in-snoc, in-left, in-last, distinct-snoc, in-without, in-other, distinct-without, without-not, gone}
-use Rattle.stays.proofs.Same.{count-snoc}
+use Rattle.stays.proofs.Lists.{count-snoc}
 use Rattle.stays.proofs.StartRanks.{rank, rank-out, start-other, start-new, end-aside, end-beside}
 
 -- q is on the side of j

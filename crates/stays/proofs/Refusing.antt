@@ -4,7 +4,7 @@ use mathlib.Core.Path.{_≡_, refl}
 use mathlib.Core.List.{List, [], _∷_}
 use Rattle.table.specs.declared.Table.{Table}
 use Rattle.events.specs.declared.Event.{Event}
-use Rattle.stays.specs.Stays.{run, final, stop, Rearranges, OneResult, SameEvents}
+use Rattle.stays.specs.Stays.{run, final, stop, Rearranges, OneResult}
 use Rattle.stays.specs.Refusing.{refusing}
 
 nothing-runs : (t : Table) (es : List Event) → run refusing t es ≡ []
@@ -20,6 +20,3 @@ refusing-rearranges es = rw (nothing-runs (refusing .empty) es, nothing-changes 
 
 pub refusing-one-result : OneResult refusing
 refusing-one-result es = rw (nothing-runs (refusing .empty) es) tt
-
-pub refusing-same-events : SameEvents refusing
-refusing-same-events f es = rw (nothing-runs (refusing .empty) es)

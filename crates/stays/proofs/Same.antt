@@ -1,78 +1,64 @@
--- Stay by stay: the same events, none lost and none doubled. Each event adds one to what is counted of the stays, whether it starts
--- one, goes on with it or ends it (`Weights`).
-use mathlib.Core.Path.{_≡_, refl}
-use mathlib.Core.Bool.{Bool, true, false}
-use mathlib.Core.List.{List, [], _∷_, _++_}
+-- The same events, none lost and none doubled: two lists that have the same events at each place, in the same order, have as many of whatever is
+-- counted. The first event of the one is taken out of the other, where it is the first of its place, and so on.
+use mathlib.Core.Path.{_≡_, refl, sym, ap, _∙_}
+use mathlib.Core.Bool.{Bool, true, false, cond}
+use mathlib.Core.List.{List, [], _∷_, nil≢cons, head-eq-of-cons-eq, tail-eq-of-cons-eq}
 use Prim.Native.Nat.{ℕ, _+_}
 use native.Mathlib.Omega.{arith}
-use lib.ListN.{getD}
-use Rattle.stays.specs.Stays.{In, placesOf, Mark, starts, goes-on, ends, Done, Machine, Stay, Stays, eventsAt, add, joined, eventsOf, stayByStay, keep, one-if, count, stays, run, done, SameEvents}
-use Rattle.stays.proofs.Laws.{Laws}
-use Rattle.stays.proofs.Places.{Distinct}
-use Rattle.stays.proofs.Build.{Inv}
-use Rattle.stays.proofs.Keep.{inv-taken, inv-none, occupied}
-use Rattle.stays.proofs.Weights.{ended-weight, running-weight, weight, weight-starts, weight-goes-on, weight-ends}
+use lib.Dec.{eqb}
+use borrow.Author.Tests.{eqb-true, eqb-false, eq-eqb}
+use Rattle.stays.specs.Stays.{one-if, count}
+use Rattle.stays.specs.Arranged.{Numbered, acts, at}
 
-module _ {X : Type 0} (f : X → Bool) where
-  pub count-append : (xs ys : List X) → count f (xs ++ ys) ≡ count f xs + count f ys
-  count-append [] ys = omega arith
-  count-append (x ∷ xs) ys = omega (arith, count-append xs ys)
+module _ {X : Type 0} (place : X → ℕ) (f : X → Bool) where
+  -- a list without one event, which comes before all others of its place
+  record Without (x : Numbered X) (ys : List (Numbered X)) : Type 0 where
+    rest : List (Numbered X)
+    counted : count f (acts ys) ≡ one-if (f (x .act)) + count f (acts rest)
+    same : (p : ℕ) → at place p ys ≡ at place p (x ∷ rest)
 
-  pub count-snoc : (xs : List X) (x : X) → count f (xs ++ (x ∷ [])) ≡ count f xs + one-if (f x)
-  count-snoc xs x = omega (arith, count-append xs (x ∷ []))
+  -- two events at different places are in either order
+  swapped : (x y : Numbered X) (a b : Bool) (l : List (Numbered X)) → (a ≡ true → b ≡ true → ⊥)
+      → cond b (y ∷ cond a (x ∷ l) l) (cond a (x ∷ l) l) ≡ cond a (x ∷ cond b (y ∷ l) l) (cond b (y ∷ l) l)
+  swapped x y true true l n = absurd (n refl refl)
+  swapped x y true false l n = refl
+  swapped x y false true l n = refl
+  swapped x y false false l n = refl
 
-  count-joined : (xss : List (List X)) → count f (joined xss) ≡ ended-weight (count f) xss
-  count-joined [] = refl
-  count-joined (xs ∷ xss) = omega (arith, count-joined xss, count-append xs (joined xss))
-
-  count-running : (ss : List (Stay X)) → count f (eventsOf ss) ≡ running-weight (count f) ss
-  count-running [] = refl
-  count-running (s ∷ ss) = omega (arith, count-running ss, count-append (s .events) (eventsOf ss))
-
-  -- what is counted event by event is counted stay by stay
-  all : (s : Stays X) → count f (stayByStay s) ≡ weight (count f) s
-  all s = omega (arith, count-append (joined (s .ended)) (eventsOf (s .running)), count-joined (s .ended), count-running (s .running))
-
-  module _ (p : ℕ) (x : X) (s : Stays X) where
-    add-starts : count f (stayByStay (add starts p x s)) ≡ count f (stayByStay s) + one-if (f x)
-    add-starts = omega (arith, all s, all (add starts p x s), weight-starts (count f) p x s)
-
-    module _ (d : Distinct (placesOf (s .running))) (i : In p (placesOf (s .running))) where
-      add-goes-on : count f (stayByStay (add goes-on p x s)) ≡ count f (stayByStay s) + one-if (f x)
-      add-goes-on = omega (arith, all s, all (add goes-on p x s), weight-goes-on (count f) p x s d i, count-snoc (eventsAt p (s .running)) x)
-
-      add-ends : count f (stayByStay (add ends p x s)) ≡ count f (stayByStay s) + one-if (f x)
-      add-ends = omega (arith, all s, all (add ends p x s), weight-ends (count f) p x s d i, count-snoc (eventsAt p (s .running)) x)
-
-module _ (m : Machine) (l : Laws m) where
-  open Machine m using (Table, Event, Answer, next, answer, accepted, mark, place)
-  open Laws l using (Core, free, Turn, taken, at-going, at-end, refused, call)
-
-  same-taken : (f : Done Event Answer → Bool) {t : Table} {s : Stays (Done Event Answer)} → Inv m l t s → (e : Event) → accepted (answer t e) ≡ true
-      → count f (stayByStay (add (mark (done m t e)) (place (done m t e)) (done m t e) s)) ≡ count f (stayByStay s) + one-if (f (done m t e))
-  same-taken f {t} {s} v e k = by (mark (done m t e)) refl
+  without : (x : Numbered X) (l ys : List (Numbered X)) → at place (place (x .act)) ys ≡ x ∷ l → Without x ys
+  without x l [] e = absurd (nil≢cons e)
+  without x l (y ∷ ys) e = by (eqb (place (y .act)) (place (x .act))) refl e (without x l ys)
     where
-      p : ℕ
-      p = place (done m t e)
+      q : ℕ
+      q = place (x .act)
 
-      turn : (r : Core) × Turn p (getD (v .cores) p free) (done m t e) r
-      turn = (taken (v .shows) e k .0, taken (v .shows) e k .1)
+      by : (b : Bool) → eqb (place (y .act)) q ≡ b → cond b (y ∷ at place q ys) (at place q ys) ≡ x ∷ l → (at place q ys ≡ x ∷ l → Without x ys) → Without x (y ∷ ys)
+      by true t h rec =
+          let here : y ≡ x = head-eq-of-cons-eq h in
+          record { rest = ys; counted = ap (λ (z : Numbered X). one-if (f (z .act)) + count f (acts ys)) here; same = λ p. ap (λ (z : Numbered X). at place p (z ∷ ys)) here }
+      by false t h rec =
+          let w = rec h in
+          let apart : (p : ℕ) → eqb q p ≡ true → eqb (place (y .act)) p ≡ true → ⊥ = λ p a b. eqb-false (place (y .act)) q t (eqb-true (place (y .act)) p b ∙ sym (eqb-true q p a)) in
+          record {
+            rest = y ∷ w .rest;
+            counted = omega (arith, w .counted);
+            same = λ p.
+                ap (λ (m : List (Numbered X)). cond (eqb (place (y .act)) p) (y ∷ m) m) (w .same p)
+                ∙ swapped x y (eqb q p) (eqb (place (y .act)) p) (at place p (w .rest)) (apart p);
+          }
 
-      by : (k : Mark) → mark (done m t e) ≡ k → count f (stayByStay (add k p (done m t e) s)) ≡ count f (stayByStay s) + one-if (f (done m t e))
-      by starts q = add-starts f p (done m t e) s
-      by goes-on q = add-goes-on f p (done m t e) s (v .distinct) (occupied m l v (turn .1) (call (done m t e)) (at-going (turn .1) q .0))
-      by ends q = add-ends f p (done m t e) s (v .distinct) (occupied m l v (turn .1) (call (done m t e)) (at-end (turn .1) q .0))
+  -- an event that both begin with, taken from both
+  both : (x : Numbered X) (b : Bool) (l m : List (Numbered X)) → cond b (x ∷ l) l ≡ cond b (x ∷ m) m → l ≡ m
+  both x true l m e = tail-eq-of-cons-eq e
+  both x false l m e = e
 
-  same-run : (f : Done Event Answer → Bool) {t : Table} {s : Stays (Done Event Answer)} → Inv m l t s → (es : List Event)
-      → count f (stayByStay (stays m s (run m t es))) ≡ count f (stayByStay s) + count f (run m t es)
-  same-run f v [] = omega arith
-  same-run f {t} {s} v (e ∷ es) = by (accepted (answer t e)) refl (λ s′ w. same-run f w es)
-    where
-      by : (b : Bool) → accepted (answer t e) ≡ b → ((s′ : Stays (Done Event Answer)) → Inv m l (next t e) s′ → count f (stayByStay (stays m s′ (run m (next t e) es))) ≡ count f (stayByStay s′) + count f (run m (next t e) es))
-          → count f (stayByStay (stays m s (keep b (done m t e) (run m (next t e) es)))) ≡ count f (stayByStay s) + count f (keep b (done m t e) (run m (next t e) es))
-      by true k rec = omega (arith, rec (add (mark (done m t e)) (place (done m t e)) (done m t e) s) (inv-taken m l v e k), same-taken f v e k)
-      by false k rec = rec s (rw (refused (v .shows) e k) v)
+  at-own : (x : Numbered X) (xs : List (Numbered X)) → at place (place (x .act)) (x ∷ xs) ≡ x ∷ at place (place (x .act)) xs
+  at-own x xs = ap (λ (b : Bool). cond b (x ∷ at place (place (x .act)) xs) (at place (place (x .act)) xs)) (eq-eqb (place (x .act)) (place (x .act)) refl)
 
-  -- THE THEOREM, that it is a rearrangement
-  pub same-events : SameEvents m
-  same-events f es = omega (arith, same-run f (inv-none m l) es)
+  pub same-count : (xs ys : List (Numbered X)) → ((p : ℕ) → at place p xs ≡ at place p ys) → count f (acts xs) ≡ count f (acts ys)
+  same-count [] [] e = refl
+  same-count [] (y ∷ ys) e = absurd (nil≢cons (e (place (y .act)) ∙ at-own y ys))
+  same-count (x ∷ xs) ys e =
+      let w = without x (at place (place (x .act)) xs) ys (sym (e (place (x .act))) ∙ at-own x xs) in
+      let rec = same-count xs (w .rest) (λ p. both x (eqb (place (x .act)) p) (at place p xs) (at place p (w .rest)) (e p ∙ w .same p)) in
+      omega (arith, rec, w .counted)

@@ -1,5 +1,5 @@
 -- Stays: what a machine of places does, stay by stay. The definitions of the demand, over any machine: its runs, the stays of a run
--- (a fold over the accepted events), and the three parts of the demand that every machine with the laws of `proofs/Laws.antt` meets.
+-- (a fold over the accepted events), and the two parts of the demand that every machine with the laws of `proofs/Laws.antt` meets.
 use mathlib.Core.Path.{_≡_}
 use mathlib.Core.Logic.{_⊎_}
 use mathlib.Core.Bool.{Bool, true, false}
@@ -167,7 +167,3 @@ module _ (m : Machine) where
   -- THE DEMAND, second part: every stay has at most one accepted pickup result
   abbrev pub OneResult : Type 0
   OneResult = (es : List Event) → Every (λ xs. count result xs ≤ 1) (allStays (stays none (run empty es)))
-
-  -- THE DEMAND, that it is a rearrangement: whatever is counted, the events are the same
-  abbrev pub SameEvents : Type 0
-  SameEvents = (f : Done Event Answer → Bool) (es : List Event) → count f (stayByStay (stays none (run empty es))) ≡ count f (run empty es)
