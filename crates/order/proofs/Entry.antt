@@ -10,7 +10,7 @@ use lib.Dec.{eqb, ltb}
 use lib.ListN.{length, drop, length-append}
 use lib.Seq.{sets}
 use borrow.Author.Tests.{eqb-true, eq-eqb, ne-eqb, lt-ltb, le-ltb}
-use Rattle.laws.proofs.Bools.{never, and-right, not-both, equal-or}
+use Rattle.laws.proofs.Bools.{and-right, not-both, equal-or}
 use Rattle.fields.specs.declared.Fault.{Fault}
 use Rattle.fields.specs.declared.Fault.the-variants.{NoFault, TooLong, WrongCount, BadField}
 use Rattle.fields.specs.Parts.{field, tabs}
@@ -208,10 +208,10 @@ feed-is-refused a b accepted =
     not-both good (feed-is-bad line (suc (s .index)) (s .left) (s .right) (s .there))
 
 pub empty-is-22 : EmptyIs22
-empty-is-22 image answer room sound =
-    rw room (at-image image [] ∙ by (eqb (length image) imageOctets) (placesSound image) sound)
+empty-is-22 image answer = ap (λ (n : ℕ). cond (isShort answer) 26 n) (at-image image [] ∙ by (eqb (length image) imageOctets) (placesSound image))
   where
-    by : (a b : Bool) → (a && b) ≡ true → cond (not a || not b) 25 (lineRows [] (firstOf (eventRows (tableFrom image) (readLine [] .event)))) ≡ 22
-    by true true h = refl
-    by true false h = never h
-    by false b h = never h
+    by : (a b : Bool) → cond (not a || not b) 25 (lineRows [] (firstOf (eventRows (tableFrom image) (readLine [] .event)))) ≡ cond (a && b) 22 25
+    by true true = refl
+    by true false = refl
+    by false true = refl
+    by false false = refl

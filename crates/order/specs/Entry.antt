@@ -2,7 +2,7 @@
 -- order from the top"), row by row, with the sizes that document 02 gave them. Each statement is proved in `proofs/Entry.antt` under the name
 -- that stands beside it.
 use mathlib.Core.Path.{_≡_}
-use mathlib.Core.Bool.{true, false, cond, not, _&&_, _||_}
+use mathlib.Core.Bool.{false, cond, not, _&&_, _||_}
 use mathlib.Core.List.{List, [], _∷_, _++_}
 use Prim.Native.Nat.{ℕ, zero, suc, _+_, _<_}
 use lib.Dec.{eqb, ltb}
@@ -75,6 +75,6 @@ FeedIsBad = (line : List ℕ) (i : ℕ) (before after : List ℕ) → field i li
 abbrev pub FeedIsRefused : Type 0
 FeedIsRefused = (before after : List ℕ) → readLine (before ++ (10 ∷ after)) .number ≡ 0 → ⊥
 
--- `empty-is-22`: "An empty line is refused with 22", where neither 26 nor 25 comes first
+-- `empty-is-22`: "An empty line is refused with 22": whatever the image and the buffer are, but where 26 or 25 comes first
 abbrev pub EmptyIs22 : Type 0
-EmptyIs22 = (image answer : List ℕ) → isShort answer ≡ false → isSoundImage image ≡ true → numberAt image [] answer ≡ 22
+EmptyIs22 = (image answer : List ℕ) → numberAt image [] answer ≡ cond (isShort answer) 26 (cond (isSoundImage image) 22 25)
