@@ -9,11 +9,11 @@ use native.Mathlib.Omega.{arith}
 use lib.Dec.{eqb, ltb}
 use lib.ListN.{length, drop, length-append}
 use lib.Seq.{sets}
-use borrow.Author.Tests.{eqb-true, eq-eqb, ne-eqb, lt-ltb, le-ltb}
+use borrow.Author.Tests.{eq-eqb, ne-eqb, lt-ltb, le-ltb}
 use Rattle.laws.proofs.Bools.{and-right, not-both, equal-or}
 use Rattle.fields.specs.declared.Fault.{Fault}
 use Rattle.fields.specs.declared.Fault.the-variants.{NoFault, TooLong, WrongCount, BadField}
-use Rattle.fields.specs.Parts.{field, tabs}
+use Rattle.fields.specs.Parts.{tabs}
 use Rattle.fields.specs.Numbers.{decimal}
 use Rattle.fields.specs.Line.{faultField, text, lineFrom}
 use Rattle.fields.specs.FirstBad.{Verdict, RightSize}
@@ -37,7 +37,7 @@ use Rattle.lines.proofs.BadField.{bad-field-stands}
 use Rattle.lines.proofs.Faults.{fault-most, no-fault}
 use Rattle.image.specs.Image.{imageOctets, statesFit, placesSound, isSoundImage, tableFrom}
 use Rattle.image.proofs.Round.{size-from, wide-from}
-use Rattle.order.specs.Order.{Row, row, firstOf, eventRows, rows}
+use Rattle.order.specs.Order.{firstOf, eventRows}
 use Rattle.order.specs.Entry.{firstBadFrom, firstBad, Comes, EntryInOrder, EntryAnswers, FeedIsRefused, EmptyIs22}
 use Rattle.order.proofs.Order.{in-order}
 use Rattle.order.proofs.Feeds.{feed-is-bad, feed-stands}

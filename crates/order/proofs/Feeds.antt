@@ -1,5 +1,5 @@
 -- A line feed is no digit: a field that has one is neither a number nor the call. In a line it stands in a field, since it is no tab.
-use mathlib.Core.Path.{_≡_, refl, ap, subst, sym, _∙_}
+use mathlib.Core.Path.{_≡_, refl, ap, _∙_}
 use mathlib.Core.Bool.{Bool, true, false, cond}
 use mathlib.Core.List.{List, [], _∷_, _++_}
 use Prim.Native.Nat.{ℕ, zero, suc, _+_, _-_, _*_, _≤_}
@@ -7,13 +7,12 @@ use native.Mathlib.Omega.{arith}
 use lib.Dec.{eqb, ltb, leb}
 use lib.ListN.{length, getD}
 use Rattle.fields.specs.declared.numbers.Number.{Number}
-use Rattle.fields.specs.declared.numbers.Number.the-variants.{Is, Bad}
-use Rattle.fields.specs.Parts.{before, after, field, tabs}
+use Rattle.fields.specs.declared.numbers.Number.the-variants.{Bad}
+use Rattle.fields.specs.Parts.{before, field, tabs}
 use Rattle.fields.specs.Numbers.{digitsFrom, numberOf}
 use Rattle.fields.specs.Calls.{nibbleOf, badCall, callFrom, callOf}
 use Rattle.fields.specs.FirstBad.{isNumber}
 use Rattle.lines.specs.EventLine.{eventFields}
-use Rattle.lines.specs.BadField.{isGood}
 use Rattle.order.specs.Entry.{FeedIsBad}
 
 -- ---- in a number

@@ -10,7 +10,7 @@ use Rattle.events.specs.declared.Event.{Event}
 use Rattle.stays.specs.Stays.{Stay, Stays, Every, BeginsBy, none, stays, count, joined, eventsOf, stayByStay, allStays, Replays, final}
 use Rattle.stays.specs.Arranged.{Numbered, Arrangement, numbered, acts, allOf, listed}
 use Rattle.stays.specs.ParkTable.{machine}
-use Rattle.stays.specs.Demand.{Act, acceptedOf, staysOf, IsStart, OfStay, Frees, Runs, Ended, Running, IsArranged, Rearranged, IsRearranged, SameStays}
+use Rattle.stays.specs.Demand.{Act, acceptedOf, staysOf, IsStart, OfStay, Frees, Runs, Ended, Running, IsArranged, IsRearranged, SameStays}
 use Rattle.stays.proofs.Lists.{every-append, every-so, every-map, every-last, map-append, map-joined, joined-append}
 use Rattle.stays.proofs.OnlyOne.{Tells, only-one}
 use Rattle.stays.proofs.AtPlaces.{arranged}

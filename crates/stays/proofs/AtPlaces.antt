@@ -1,7 +1,7 @@
 -- At each place the events of the fold stand as they do in the run. What stands at a place is what stands there of the ended stays, and then the stay
 -- that runs there; an event is put at the end of that, whatever its mark is.
 use mathlib.Core.Path.{_≡_, refl, sym, ap, ap₂, subst, _∙_}
-use mathlib.Core.Logic.{_⊎_, inl, inr}
+use mathlib.Core.Logic.{inl, inr}
 use mathlib.Core.List.{List, [], _∷_, _++_, map, append-nil, append-assoc}
 use Prim.Native.Nat.{ℕ}
 use native.Mathlib.Decide.{ℕ-discrete}

@@ -1,5 +1,5 @@
 -- THE THEOREMS of `specs/Demand.antt`, by their names there. The last is computed.
-use mathlib.Core.Path.{_≡_, refl, sym, ap, _∙_}
+use mathlib.Core.Path.{_≡_, sym, ap}
 use mathlib.Core.List.{map}
 use native.Mathlib.Decide.{ℕ-discrete}
 use Rattle.laws.specs.Lists.{below}

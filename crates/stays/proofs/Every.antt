@@ -1,6 +1,6 @@
 -- What holds of each stay that is built event by event (`Part`, and `Whole` for an ended one) holds of every stay of a run: by the
 -- invariant, the ended stays are whole and the running ones are parts.
-use mathlib.Core.List.{List, [], _∷_, _++_, map}
+use mathlib.Core.List.{List, [], _∷_, map}
 use Prim.Native.Nat.{ℕ}
 use Rattle.stays.specs.Stays.{Done, Machine, Stay, Stays, Every, none, run, stays, allStays}
 use Rattle.stays.proofs.Lists.{every-append}

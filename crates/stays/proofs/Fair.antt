@@ -23,7 +23,7 @@ use Rattle.stays.specs.Stays.{In, Before, first, later, final}
 use Rattle.stays.specs.ParkTable.{machine}
 use Rattle.stays.specs.Demand.{runningPlaces, ServesFirst}
 use Rattle.stays.proofs.Keep.{inv-all}
-use Rattle.stays.proofs.StartRanks.{rank, rank-before}
+use Rattle.stays.proofs.StartRanks.{rank-before}
 use Rattle.stays.proofs.Ordered.{Ordered, beside, beside-alike}
 use Rattle.stays.proofs.TableLaws.{laws}
 

@@ -1,6 +1,6 @@
 -- The invariant `Inv` holds along every run, and with it the first part of the demand: a refused event keeps the table, and an
 -- accepted one starts a stay, goes on with it or ends it, each by the law of its mark.
-use mathlib.Core.Path.{_≡_, refl, sym, _∙_, ap, subst}
+use mathlib.Core.Path.{_≡_, refl, sym, _∙_, subst}
 use mathlib.Core.Logic.{_≢_, _⊎_, inl, inr}
 use mathlib.Core.Bool.{Bool, true, false}
 use mathlib.Core.List.{List, [], _∷_, _++_, map}
