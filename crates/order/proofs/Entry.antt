@@ -4,12 +4,12 @@ use mathlib.Core.Path.{_≡_, refl, sym, ap, subst, _∙_}
 use mathlib.Core.Bool.{Bool, true, false, cond, not, _&&_, _||_}
 use mathlib.Core.Logic.{⊎-elim}
 use mathlib.Core.List.{List, [], _∷_, _++_, append-assoc}
-use Prim.Native.Nat.{ℕ, zero, suc, _+_, _-_, _≤_, _<_}
+use Prim.Native.Nat.{ℕ, zero, suc, _+_, _≤_, _<_}
 use native.Mathlib.Omega.{arith}
 use lib.Dec.{eqb, ltb}
 use lib.ListN.{length, drop, length-append}
 use lib.Seq.{sets}
-use borrow.Author.Tests.{eq-eqb, ne-eqb, lt-ltb, le-ltb}
+use borrow.Author.Tests.{eqb-true, eq-eqb, ne-eqb, lt-ltb, le-ltb}
 use Rattle.laws.proofs.Bools.{and-right, not-both, equal-or}
 use Rattle.fields.specs.declared.Fault.{Fault}
 use Rattle.fields.specs.declared.Fault.the-variants.{NoFault, TooLong, WrongCount, BadField}
@@ -35,12 +35,13 @@ use Rattle.lines.specs.BadField.{isGood, BadFieldStands}
 use Rattle.lines.specs.AnswerLine.{answerFields, answerValues, answerLine}
 use Rattle.lines.proofs.BadField.{bad-field-stands}
 use Rattle.lines.proofs.Faults.{fault-most, no-fault}
-use Rattle.image.specs.Image.{imageOctets, statesFit, placesSound, isSoundImage, tableFrom}
+use Rattle.image.specs.Image.{imageOctets, imageOf, statesFit, placesSound, isSoundImage, tableFrom}
 use Rattle.image.proofs.Round.{size-from, wide-from}
 use Rattle.order.specs.Order.{firstOf, eventRows}
 use Rattle.order.specs.Entry.{firstBadFrom, firstBad, Comes, EntryInOrder, EntryAnswers, FeedIsRefused, EmptyIs22}
 use Rattle.order.proofs.Order.{in-order}
-use Rattle.order.proofs.Feeds.{feed-is-bad, feed-stands}
+use Rattle.order.proofs.Feeds.{feed-stands}
+pub use Rattle.order.proofs.Feeds.{feed-is-bad}
 
 -- ---- the first bad field
 
@@ -160,16 +161,16 @@ entry-in-order image line answer = ap (λ (n : ℕ). cond (isShort answer) 26 n)
 
 -- ---- what is written
 
--- the line of an answer begins with its number and a tab
+-- the line of an answer begins with its number and a tab, and ends with the feed
 abbrev after-number : Answer → List ℕ
-after-number a = lineFrom (drop 1 answerFields) 1 (answerValues a) (a .call) ++ (10 ∷ [])
+after-number a = lineFrom (drop 1 answerFields) 1 (answerValues a) (a .call)
 
-number-first : (a : Answer) → answerLine a ≡ decimal (a .number) ++ (9 ∷ after-number a)
+number-first : (a : Answer) → answerLine a ≡ decimal (a .number) ++ (9 ∷ (after-number a ++ (10 ∷ [])))
 unfolding answerLine lineFrom text
-number-first a = append-assoc (decimal (a .number)) (9 ∷ lineFrom (drop 1 answerFields) 1 (answerValues a) (a .call)) (10 ∷ [])
+number-first a = append-assoc (decimal (a .number)) (9 ∷ after-number a) (10 ∷ [])
 
 some-octets : (a : Answer) → 0 < length (answerLine a)
-some-octets a = rw (number-first a) (omega (arith, length-append (decimal (a .number)) (9 ∷ after-number a)))
+some-octets a = rw (number-first a) (omega (arith, length-append (decimal (a .number)) (9 ∷ (after-number a ++ (10 ∷ [])))))
 
 -- no answer has 26
 not-26 : (image line : List ℕ) → stepOn image line .answer .number ≤ 25
@@ -184,28 +185,55 @@ not-26 image line = by (isSoundImage image)
     by false = omega arith
 
 pub entry-answers : EntryAnswers
-entry-answers image line answer count newImage newAnswer done = rw (← entry-in-order image line answer) (by (isShort answer) (done .0) (done .2))
+entry-answers image line answer count newImage newAnswer done =
+    rw (← entry-in-order image line answer) (by (isShort answer) (eqb (a .number) 0) refl (done .0) (done .1) (done .2))
   where
     a : Answer
     a = stepOn image line .answer
 
-    by : (b : Bool) → count ≡ cond b 0 (length (answerLine a)) → newAnswer ≡ cond b answer (sets answer 0 (answerLine a)) → Comes (cond b 26 (a .number)) answer count newAnswer
-    by true c n = record { nothing = λ q. (c, n); a-line = λ q. absurd (q refl) }
-    by false c n = record {
+    by : (b c : Bool) → eqb (a .number) 0 ≡ c → count ≡ cond b 0 (length (answerLine a)) → newImage ≡ cond b image (cond c (imageOf (stepOn image line .table)) image)
+        → newAnswer ≡ cond b answer (sets answer 0 (answerLine a)) → Comes (cond b 26 (a .number)) image answer count newImage newAnswer
+    by true c z n i w = record { nothing = λ q. (n, w); a-line = λ q. absurd (q refl); image-stays = λ q. i }
+    by false c z n i w = record {
       nothing = λ q. absurd (omega (arith, q, not-26 image line));
-      a-line = λ q. (rw c (some-octets a), (after-number a, n ∙ ap (sets answer 0) (number-first a)));
+      a-line = λ q. (after-number a, w ∙ ap (sets answer 0) (number-first a), n ∙ ap length (number-first a), rw n (some-octets a));
+      image-stays = λ q. i ∙ kept c z q;
     }
+      where
+        kept : (c : Bool) → eqb (a .number) 0 ≡ c → (a .number ≡ 0 → ⊥) → cond c (imageOf (stepOn image line .table)) image ≡ image
+        kept true z q = absurd (q (eqb-true (a .number) 0 z))
+        kept false z q = refl
 
 -- ---- lines
 
-pub feed-is-refused : FeedIsRefused
-feed-is-refused a b accepted =
+feed-unread : (a b : List ℕ) → readLine (a ++ (10 ∷ b)) .number ≡ 0 → ⊥
+feed-unread a b accepted =
     let line : List ℕ = a ++ (10 ∷ b) in
     let s = feed-stands a b in
     let none : fault line ≡ NoFault = no-fault (fault line) (sym (number-is line) ∙ accepted) in
     let says : Verdict longestEvent eventFields line NoFault = subst (Verdict longestEvent eventFields line) none (meaning line) in
     let good : isGood (suc (s .index)) line ≡ true = bad-field-stands line .all-good accepted (suc (s .index)) (omega arith) (omega (arith, s .within, says .0 .as-many)) in
     not-both good (feed-is-bad line (suc (s .index)) (s .left) (s .right) (s .there))
+
+pub feed-is-refused : FeedIsRefused
+feed-is-refused image answer a b =
+    by (isShort answer) bad (at-image image line ∙ ap (λ (n : ℕ). cond bad 25 n) (line-rows line (firstOf (eventRows (tableFrom image) (readLine line .event)))))
+  where
+    line : List ℕ
+    line = a ++ (10 ∷ b)
+
+    bad : Bool
+    bad = not (eqb (length image) imageOctets) || not (placesSound image)
+
+    refused : (c : Bool) (n : ℕ) → eqb (readLine line .number) 0 ≡ c → cond c n (readLine line .number) ≡ 0 → ⊥
+    refused true n q e = feed-unread a b (eqb-true (readLine line .number) 0 q)
+    refused false n q e = feed-unread a b e
+
+    by : (short unsound : Bool) → stepOn image line .answer .number ≡ cond unsound 25 (cond (eqb (readLine line .number) 0) (firstOf (eventRows (tableFrom image) (readLine line .event))) (readLine line .number))
+        → cond short 26 (stepOn image line .answer .number) ≡ 0 → ⊥
+    by true unsound h e = omega (arith, e)
+    by false true h e = omega (arith, sym h ∙ e)
+    by false false h e = refused (eqb (readLine line .number) 0) (firstOf (eventRows (tableFrom image) (readLine line .event))) refl (sym h ∙ e)
 
 pub empty-is-22 : EmptyIs22
 empty-is-22 image answer = ap (λ (n : ℕ). cond (isShort answer) 26 n) (at-image image [] ∙ by (eqb (length image) imageOctets) (placesSound image))

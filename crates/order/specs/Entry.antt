@@ -54,16 +54,20 @@ module _ (image line answer : List ℕ) where
 abbrev pub EntryInOrder : Type 0
 EntryInOrder = (image line answer : List ℕ) → numberAt image line answer ≡ firstOf (entryRows image line answer)
 
--- what comes of a call with this number: with 26 the count is 0 and nothing is written; with any other it is above 0, and a line is written whose
--- first field is the number
-pub record Comes (number : ℕ) (answer : List ℕ) (count : ℕ) (after : List ℕ) : Type 0 where
-  pub nothing : number ≡ 26 → (count ≡ 0) × (after ≡ answer)
-  pub a-line : (number ≡ 26 → ⊥) → (0 < count) × ((rest : List ℕ) × (after ≡ sets answer 0 (decimal number ++ (9 ∷ rest))))
+-- What comes of a call with this number: the image and the answer buffer before it, the count, and the two after it.
+pub record Comes (number : ℕ) (image answer : List ℕ) (count : ℕ) (newImage newAnswer : List ℕ) : Type 0 where
+  -- "0 only with refusal 26, which writes nothing"
+  pub nothing : number ≡ 26 → (count ≡ 0) × (newAnswer ≡ answer)
+  -- with any other number a line is written that begins with it, from the start of the buffer, and its octets are counted, line feed included
+  pub a-line : (number ≡ 26 → ⊥)
+      → (rest : List ℕ) × (newAnswer ≡ sets answer 0 (decimal number ++ (9 ∷ (rest ++ (10 ∷ []))))) × (count ≡ length (decimal number ++ (9 ∷ (rest ++ (10 ∷ []))))) × (0 < count)
+  -- a refusal leaves the image
+  pub image-stays : (number ≡ 0 → ⊥) → newImage ≡ image
 
--- `entry-answers`: of any result that meets the contract of `park_step`. So "0 only with refusal 26"
+-- `entry-answers`: of any result that meets the contract of `park_step`
 abbrev pub EntryAnswers : Type 0
 EntryAnswers = (image line answer : List ℕ) (count : ℕ) (newImage newAnswer : List ℕ) → ParkStep image line answer count newImage newAnswer
-    → Comes (firstOf (entryRows image line answer)) answer count newAnswer
+    → Comes (firstOf (entryRows image line answer)) image answer count newImage newAnswer
 
 -- ---- what the paper says of lines besides
 
@@ -71,9 +75,9 @@ EntryAnswers = (image line answer : List ℕ) (count : ℕ) (newImage newAnswer 
 abbrev pub FeedIsBad : Type 0
 FeedIsBad = (line : List ℕ) (i : ℕ) (before after : List ℕ) → field i line ≡ before ++ (10 ∷ after) → isGood i line ≡ false
 
--- `feed-is-refused`: so no line with a feed in it is accepted
+-- `feed-is-refused`: so no line with a feed in it is accepted, whatever the image and the buffer are
 abbrev pub FeedIsRefused : Type 0
-FeedIsRefused = (before after : List ℕ) → readLine (before ++ (10 ∷ after)) .number ≡ 0 → ⊥
+FeedIsRefused = (image answer before after : List ℕ) → numberAt image (before ++ (10 ∷ after)) answer ≡ 0 → ⊥
 
 -- `empty-is-22`: "An empty line is refused with 22": whatever the image and the buffer are, but where 26 or 25 comes first
 abbrev pub EmptyIs22 : Type 0

@@ -24,8 +24,8 @@ use Rattle.stays.proofs.EachStay.{begins-snoc, each-stay}
 
 -- ---- what is known of a stay
 
-at-one : (p : Place) (call : List ℕ) (xs : List Act) → Every (OfStay p call) xs → Every (λ x. machine .place x ≡ indexOf (p .0)) xs
-at-one p call xs h = every-so (OfStay p call) (λ x. machine .place x ≡ indexOf (p .0)) (λ x o. ap (λ (q : Place). indexOf (q .0)) (o .0)) xs h
+at-index : (p : Place) (call : List ℕ) (xs : List Act) → Every (OfStay p call) xs → Every (λ x. machine .place x ≡ indexOf (p .0)) xs
+at-index p call xs h = every-so (OfStay p call) (λ x. machine .place x ≡ indexOf (p .0)) (λ x o. ap (λ (q : Place). indexOf (q .0)) (o .0)) xs h
 
 tells : Tells (machine .place) IsStart Ended Running
 tells = record {
@@ -33,9 +33,9 @@ tells = record {
   running-begins = λ xs r. r .2 .begins;
   ended-place = λ xs e. (
     indexOf (e .place .0),
-    at-one (e .place) (e .call) xs (subst (Every (OfStay (e .place) (e .call))) (sym (e .all)) (every-append _ (e .before) (e .last ∷ []) (e .runs .one) (e .same, tt))),
+    at-index (e .place) (e .call) xs (subst (Every (OfStay (e .place) (e .call))) (sym (e .all)) (every-append _ (e .before) (e .last ∷ []) (e .runs .one) (e .same, tt))),
   );
-  running-place = λ xs r. (indexOf (r .0 .0), at-one (r .0) (r .1) xs (r .2 .one));
+  running-place = λ xs r. (indexOf (r .0 .0), at-index (r .0) (r .1) xs (r .2 .one));
   either = λ xs e r. every-last (λ x. Frees x → ⊥) (e .before) (e .last) (subst (Every (λ x. Frees x → ⊥)) (e .all) (r .2 .held)) (e .frees);
 }
 
@@ -54,14 +54,14 @@ joined-events [] = refl
 joined-events (s ∷ ss) = ap (λ l. s .events ++ l) (joined-events ss)
 
 module _ (es : List Event) where
-  abbrev pub stays-numbered : Stays (Numbered Act)
-  stays-numbered = numberedFold (machine .mark) (machine .place) none (numbered (acceptedOf es))
+  abbrev numberedStays : Stays (Numbered Act)
+  numberedStays = numberedFold (machine .mark) (machine .place) none (numbered (acceptedOf es))
 
   abbrev pub made : Arrangement Act
-  made = arranged stays-numbered
+  made = arranged numberedStays
 
   -- the numbers forgotten, it is the fold
-  forgotten : forget (λ (y : Numbered Act). y .act) stays-numbered ≡ staysOf es
+  forgotten : forget (λ (y : Numbered Act). y .act) numberedStays ≡ staysOf es
   forgotten =
       forget-fold (λ (y : Numbered Act). y .act) (machine .mark) (machine .place) (numbered (acceptedOf es)) none
       ∙ ap (stays machine none) (acts-numbered 1 (acceptedOf es))
@@ -70,7 +70,7 @@ module _ (es : List Event) where
   ended-are = ap (λ (s : Stays Act). s .ended) forgotten
 
   running-are : map acts (made .running) ≡ map (λ (s : Stay Act). s .events) (staysOf es .running)
-  running-are = events-of (stays-numbered .running) ∙ ap (λ (s : Stays Act). map (λ (r : Stay Act). r .events) (s .running)) forgotten
+  running-are = events-of (numberedStays .running) ∙ ap (λ (s : Stays Act). map (λ (r : Stay Act). r .events) (s .running)) forgotten
 
   all-are : map acts (allOf made) ≡ allStays machine (staysOf es)
   all-are = map-append acts (made .ended) (made .running) ∙ ap₂ (λ (a b : List (List Act)). a ++ b) ended-are running-are

@@ -1,4 +1,4 @@
--- The invariant `Inv` holds along every run, and with it the first part of the demand: a refused event keeps the table, and an
+-- The invariant `Inv` holds along every run, and with it the rearranged events are accepted again: a refused event keeps the table, and an
 -- accepted one starts a stay, goes on with it or ends it, each by the law of its mark.
 use mathlib.Core.Path.{_≡_, refl, sym, _∙_, subst}
 use mathlib.Core.Logic.{_≢_, _⊎_, inl, inr}
@@ -202,6 +202,6 @@ module _ (m : Machine) (l : Laws m) where
   pub follows-all : (es : List Event) → Follows mark place [] (run m empty es)
   follows-all es = follows-run inv-none es
 
-  -- THE THEOREM, first part
+  -- of the fold, that its events are accepted again
   pub rearranges : Rearranges m
   rearranges es = replayed m l (inv-all es)

@@ -25,10 +25,6 @@ pub every-map : {A B : Type 0} (f : A → B) (P : B → Type 0) (xs : List A) �
 every-map f P [] h = tt
 every-map f P (x ∷ xs) h = (h .0, every-map f P xs (h .1))
 
-pub map-snoc : {A B : Type 0} (f : A → B) (xs : List A) (x : A) → map f (xs ++ (x ∷ [])) ≡ map f xs ++ (f x ∷ [])
-map-snoc f [] x = refl
-map-snoc f (y ∷ xs) x = ap (λ l. f y ∷ l) (map-snoc f xs x)
-
 pub whether-yes : {P A : Type 0} (d : Dec P) (a b : A) → P → whether d a b ≡ a
 whether-yes (yes h) a b p = refl
 whether-yes (no n) a b p = absurd (n p)
@@ -40,6 +36,9 @@ whether-no (no k) a b n = refl
 pub map-append : {A B : Type 0} (f : A → B) (xs ys : List A) → map f (xs ++ ys) ≡ map f xs ++ map f ys
 map-append f [] ys = refl
 map-append f (x ∷ xs) ys = ap (λ l. f x ∷ l) (map-append f xs ys)
+
+pub map-snoc : {A B : Type 0} (f : A → B) (xs : List A) (x : A) → map f (xs ++ (x ∷ [])) ≡ map f xs ++ (f x ∷ [])
+map-snoc f xs x = map-append f xs (x ∷ [])
 
 pub map-joined : {A B : Type 0} (f : A → B) (xss : List (List A)) → map f (joined xss) ≡ joined (map (map f) xss)
 map-joined f [] = refl

@@ -4,7 +4,7 @@ use mathlib.Core.Path.{_≡_, refl, sym, ap, subst, _∙_}
 use mathlib.Core.List.{List, [], _∷_, _++_, map, append-nil, append-assoc}
 use Prim.Native.Nat.{ℕ, suc}
 use Rattle.stays.specs.Stays.{Mark, starts, goes-on, ends, Stays, placesOf, none, add, fold}
-use Rattle.stays.specs.Arranged.{Numbered, Arrangement, Rising, numberedFrom, numbered, firstNumber, lastNumber, listed, at}
+use Rattle.stays.specs.Arranged.{Numbered, Rising, numberedFrom, numbered, firstNumber, lastNumber, listed, at}
 use Rattle.stays.proofs.Places.{arrange, Follows, places-snoc, places-longer, places-others}
 use Rattle.stays.proofs.OnlyOne.{at-append}
 use Rattle.stays.proofs.Starts.{Started, started-none, started-added}
@@ -67,14 +67,11 @@ module _ {X : Type 0} (mark : X → Mark) (place : X → ℕ) where
   orderly-none = record { started = started-none 1; placed = placed-none place; over = over-none 1 }
 
   module _ (xs : List X) (f : Follows mark place [] xs) where
-    abbrev made : Arrangement X
-    made = arranged (numberedFold none (numbered xs))
-
-    pub ends-rise : Rising (map lastNumber (made .ended))
+    pub ends-rise : Rising (map lastNumber (arranged (numberedFold none (numbered xs)) .ended))
     ends-rise = orderly-fold xs 1 none f orderly-none .1 .over .rise
 
-    pub starts-rise : Rising (map firstNumber (made .running))
+    pub starts-rise : Rising (map firstNumber (arranged (numberedFold none (numbered xs)) .running))
     starts-rise = orderly-fold xs 1 none f orderly-none .1 .started .rise
 
-    pub same-at : (p : ℕ) → at place p (listed made) ≡ at place p (numbered xs)
+    pub same-at : (p : ℕ) → at place p (listed (arranged (numberedFold none (numbered xs)))) ≡ at place p (numbered xs)
     same-at p = stands-fold p xs 1 none f orderly-none

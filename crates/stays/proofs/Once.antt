@@ -41,6 +41,6 @@ module _ (m : Machine) (l : Laws m) where
       by (inl e) false f = rw (e, f) (omega arith)
       by (inr e) b f = rw (e .0, ends-spent turn k (e .1)) (omega arith)
 
-  -- THE THEOREM, second part
+  -- of the fold, that no stay has two
   pub one-result : OneResult m
   one-result es = every-stay m l (λ xs. count result xs ≤ 1) (λ p c xs r h. once h) (λ xs h. whole-once h) es

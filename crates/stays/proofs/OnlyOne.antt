@@ -172,14 +172,14 @@ module _ {X : Type 0} {place : X → ℕ} {Start : X → Type 0} {Ended Runs : L
         (every-so _ _ (λ s e. at-first s _ (k .running-place (acts s) e .1)) (a .running) (h .each-running))
 
   module _ {xs : List X} (a b : Arrangement X) (h : StayByStay place Ended Runs xs a) (g : StayByStay place Ended Runs xs b) where
-    same-stays : (p : ℕ) → staysAt place p (allOf a) ≡ staysAt place p (allOf b)
-    same-stays p = one-split (λ y. Start (y .act)) (staysAt place p (allOf a)) (staysAt place p (allOf b))
+    same-there : (p : ℕ) → staysAt place p (allOf a) ≡ staysAt place p (allOf b)
+    same-there p = one-split (λ y. Start (y .act)) (staysAt place p (allOf a)) (staysAt place p (allOf b))
         (staysAt-every place _ p (allOf a) (all-begin a h)) (staysAt-every place _ p (allOf b) (all-begin b g))
         (sym (at-joined place p (allOf a) (all-at a h)) ∙ h .same-at p ∙ sym (g .same-at p) ∙ at-joined place p (allOf b) (all-at b g))
 
     -- a stay of the one is a stay of the other
     shared : (s : List (Numbered X)) → List·Memᴰ s (allOf a) → List·Memᴰ s (allOf b)
-    shared s i = from-place place (placeOf place s) s (allOf b) (subst (List·Memᴰ s) (same-stays (placeOf place s)) (to-place place s (allOf a) i))
+    shared s i = from-place place (placeOf place s) s (allOf b) (subst (List·Memᴰ s) (same-there (placeOf place s)) (to-place place s (allOf a) i))
 
     ended-shared : (s : List (Numbered X)) → List·Memᴰ s (a .ended) → List·Memᴰ s (b .ended)
     ended-shared s i =

@@ -1,7 +1,7 @@
 -- The ranks of a table are those that the order of the starts gives (`Ordered`), and a turn keeps that: a start puts its place at the end of the
 -- order, an end takes it out, and any other event leaves order and ranks.
 use mathlib.Core.Path.{_≡_, refl, sym, ap, subst, _∙_}
-use mathlib.Core.Logic.{_≢_, _⊎_, inl, inr, ⊎-elim}
+use mathlib.Core.Logic.{_≢_, inl, inr, ⊎-elim}
 use mathlib.Core.Bool.{Bool, true, false, cond, not, _&&_}
 use mathlib.Core.List.{List, [], _∷_, _++_}
 use Prim.Native.Nat.{ℕ, _+_, _<_}

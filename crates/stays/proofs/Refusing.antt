@@ -1,5 +1,5 @@
--- The machine that refuses everything meets all that demand 3 states: its runs are empty. So demand 3 by itself says too little, and it is
--- proved over the definition that demand 2 gives.
+-- Of the machine that refuses everything, too, the events that it accepted are accepted again and no stay has two results: its runs are empty. So demand
+-- 3 by itself says too little, and it is proved over the definition that demand 2 gives.
 use mathlib.Core.Path.{_≡_, refl}
 use mathlib.Core.List.{List, [], _∷_}
 use Rattle.table.specs.declared.Table.{Table}

@@ -12,7 +12,7 @@ use Rattle.stays.specs.Arranged.{Numbered, acts, at}
 
 module _ {X : Type 0} (place : X → ℕ) (f : X → Bool) where
   -- a list without one event, which comes before all others of its place
-  record Without (x : Numbered X) (ys : List (Numbered X)) : Type 0 where
+  record TakenOut (x : Numbered X) (ys : List (Numbered X)) : Type 0 where
     rest : List (Numbered X)
     counted : count f (acts ys) ≡ one-if (f (x .act)) + count f (acts rest)
     same : (p : ℕ) → at place p ys ≡ at place p (x ∷ rest)
@@ -25,14 +25,14 @@ module _ {X : Type 0} (place : X → ℕ) (f : X → Bool) where
   swapped x y false true l n = refl
   swapped x y false false l n = refl
 
-  without : (x : Numbered X) (l ys : List (Numbered X)) → at place (place (x .act)) ys ≡ x ∷ l → Without x ys
-  without x l [] e = absurd (nil≢cons e)
-  without x l (y ∷ ys) e = by (eqb (place (y .act)) (place (x .act))) refl e (without x l ys)
+  taken-out : (x : Numbered X) (l ys : List (Numbered X)) → at place (place (x .act)) ys ≡ x ∷ l → TakenOut x ys
+  taken-out x l [] e = absurd (nil≢cons e)
+  taken-out x l (y ∷ ys) e = by (eqb (place (y .act)) (place (x .act))) refl e (taken-out x l ys)
     where
       q : ℕ
       q = place (x .act)
 
-      by : (b : Bool) → eqb (place (y .act)) q ≡ b → cond b (y ∷ at place q ys) (at place q ys) ≡ x ∷ l → (at place q ys ≡ x ∷ l → Without x ys) → Without x (y ∷ ys)
+      by : (b : Bool) → eqb (place (y .act)) q ≡ b → cond b (y ∷ at place q ys) (at place q ys) ≡ x ∷ l → (at place q ys ≡ x ∷ l → TakenOut x ys) → TakenOut x (y ∷ ys)
       by true t h rec =
           let here : y ≡ x = head-eq-of-cons-eq h in
           record { rest = ys; counted = ap (λ (z : Numbered X). one-if (f (z .act)) + count f (acts ys)) here; same = λ p. ap (λ (z : Numbered X). at place p (z ∷ ys)) here }
@@ -59,6 +59,6 @@ module _ {X : Type 0} (place : X → ℕ) (f : X → Bool) where
   same-count [] [] e = refl
   same-count [] (y ∷ ys) e = absurd (nil≢cons (e (place (y .act)) ∙ at-own y ys))
   same-count (x ∷ xs) ys e =
-      let w = without x (at place (place (x .act)) xs) ys (sym (e (place (x .act))) ∙ at-own x xs) in
+      let w = taken-out x (at place (place (x .act)) xs) ys (sym (e (place (x .act))) ∙ at-own x xs) in
       let rec = same-count xs (w .rest) (λ p. both x (eqb (place (x .act)) p) (at place p xs) (at place p (w .rest)) (e p ∙ w .same p)) in
       omega (arith, rec, w .counted)

@@ -6,7 +6,7 @@ use Prim.Native.Nat.{ℕ, suc, _<_}
 use native.Mathlib.Decide.{ℕ-discrete}
 use Rattle.stays.specs.Stays.{Mark, starts, goes-on, ends, Stay, Stays, Every, longer, others, add}
 use Rattle.stays.specs.Arranged.{Numbered, Rising, firstNumber}
-use Rattle.stays.proofs.Lists.{every-append}
+use Rattle.stays.proofs.Lists.{every-append, map-snoc}
 use Rattle.stays.proofs.Rising.{below-more, rising-snoc, below-snoc}
 use Rattle.stays.proofs.Places.{longer-here, longer-there, others-here, others-there}
 
@@ -34,8 +34,7 @@ module _ {X : Type 0} where
     begun : Every (λ r. Begun (r .events)) ss
 
   firsts-snoc : (ss : List (Stay (Numbered X))) (r : Stay (Numbered X)) → firsts (ss ++ (r ∷ [])) ≡ firsts ss ++ (firstNumber (r .events) ∷ [])
-  firsts-snoc [] r = refl
-  firsts-snoc (s ∷ ss) r = ap (λ l. firstNumber (s .events) ∷ l) (firsts-snoc ss r)
+  firsts-snoc ss r = ap (map firstNumber) (map-snoc (λ (s : Stay (Numbered X)). s .events) ss r) ∙ map-snoc firstNumber (map (λ (s : Stay (Numbered X)). s .events) ss) (r .events)
 
   -- ---- one stay is longer
 

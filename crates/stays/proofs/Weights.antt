@@ -1,14 +1,14 @@
 -- A number of each stay, added up over the ended and the running ones, and what one event changes of the sum: one that starts a stay adds the number
 -- of the new one; any other puts that of the longer stay in place of that of the stay so far, whether it goes on with it or ends it. The places of
 -- the running stays are distinct, so that one stay alone is longer.
-use mathlib.Core.Path.{_≡_, refl}
+use mathlib.Core.Path.{_≡_, refl, ap}
 use mathlib.Core.Logic.{inl, inr}
 use mathlib.Core.List.{List, [], _∷_, _++_, map}
 use Prim.Native.Nat.{ℕ, _+_}
 use native.Mathlib.Decide.{ℕ-discrete}
 use native.Mathlib.Omega.{arith}
 use Rattle.stays.specs.Stays.{In, placesOf, starts, goes-on, ends, Stay, Stays, whether, longer, others, eventsAt, add}
-use Rattle.stays.proofs.Places.{Distinct}
+use Rattle.stays.proofs.Places.{Distinct, none-longer}
 
 module _ {X : Type 0} (g : List X → ℕ) where
   abbrev pub ended-weight : List (List X) → ℕ
@@ -31,13 +31,7 @@ module _ {X : Type 0} (g : List X → ℕ) where
   running-snoc (r ∷ ss) s = omega (arith, running-snoc ss s)
 
   longer-not : (p : ℕ) (x : X) (ss : List (Stay X)) → ¬ In p (placesOf ss) → running-weight (map (longer p x) ss) ≡ running-weight ss
-  longer-not p x [] n = refl
-  longer-not p x (s ∷ ss) n = by (ℕ-discrete p (s .at)) (longer-not p x ss (λ i. n (inr i)))
-    where
-      by : (d : Dec (p ≡ s .at)) → running-weight (map (longer p x) ss) ≡ running-weight ss
-          → g (whether d (record { at = s .at; events = s .events ++ (x ∷ []) }) s .events) + running-weight (map (longer p x) ss) ≡ g (s .events) + running-weight ss
-      by (yes e) rec = absurd (n (inl e))
-      by (no k) rec = omega (arith, rec)
+  longer-not p x ss n = ap running-weight (none-longer p x ss n)
 
   longer-in : (p : ℕ) (x : X) (ss : List (Stay X)) → Distinct (placesOf ss) → In p (placesOf ss)
       → running-weight (map (longer p x) ss) + g (eventsAt p ss) ≡ running-weight ss + g (eventsAt p ss ++ (x ∷ []))

@@ -1,18 +1,22 @@
 -- THE DEMAND, stay by stay, on one page: what is promised of every list of events from the empty table, with the ranks of document 02's Q-4. First
--- the words of the demand, each with the statement that stands for it; all are proved in `proofs/Demand.antt` under the names in backquotes.
+-- the words of the demand, and beside each the statement that stands for it. The theorem is `rearranged`, and what follows a dot is a field of it.
 --
---   "Rearranged stay by stay,                         `rearranged`: the accepted events of a run, numbered, have one arrangement that meets the
---                                                     words (`StayByStay`, Arranged.antt), with `Ended` and `Running` below for what a stay is
---    ended stays first, in order of their ends,       `.by-ends`: the numbers of their last events rise
---    then open stays in order of their starts,        `.by-starts`: the numbers of their first events rise
---    a stay's events in their order,                  `.same-at`: at each place the events stand in the order of the run
---    every accepted event is accepted again           `.again`: the events as they were accepted, each with its call and its place, and a pickup
---    with the same answer,                            with choice 0 (`byAnswer`, ParkTable.antt), have the answers that they had
---    and the final table is the same;                 and lead from the empty table to the same table, ranks included
---    in no stay are two pickup results accepted."     `.one-result`
+--   "Rearranged stay by stay"                       .stays: an arrangement of the accepted events of the run, which are numbered (Arranged.antt); what a
+--                                                   stay is say `Ended` and `Running` below, .arranged .each-ended and .arranged .each-running
+--   "Ended stays first, in order of their ends,     .arranged .by-ends: the numbers of their last events rise
+--    then open stays in order of their starts"      .arranged .by-starts: the numbers of their first events rise
+--   "a stay's events keep their order"              .arranged .same-at: at each place the events stand in the order of the run
+--                                                   .only: no other arrangement meets these words; .same-events: none is lost and none doubled
+--   "every accepted event is accepted again         .again: the events as they were accepted, each with the call and the place of its answer (`byAnswer`,
+--    with the same answer"                          ParkTable.antt), are accepted with the answers that they had,
+--   "and the final table is the same"               and lead from the empty table to the table of the run, ranks included
+--   "A pickup that asks by name there has           `choiceByName`, ParkTable.antt: the pickups are told so
+--    choice 0"
+--   "in no stay are two pickup results accepted"    .one-result
 --
--- Then what is promised beyond it: what a stay is like (`each-stay`), who is told how a pickrequ came out (`tells-requester`), who is served first
--- (`serves-first`). At the end one run is worked out (`worked-out`).
+-- Then what is promised beyond it: the same stays by a fold (`same-stays`) and what they are like (`each-stay`), who is told how a pickrequ came out
+-- (`tells-requester`), who is served first (`serves-first`). At the end a run is worked out (`worked-out`). The theorems of this page are those of
+-- `proofs/Demand.antt`.
 use mathlib.Core.Path.{_≡_}
 use mathlib.Core.Logic.{_⊎_}
 use mathlib.Core.Bool.{Bool}
@@ -104,7 +108,7 @@ pub record Rearranged (es : List Event) : Type 0 where
   pub again : Replays machine emptyTable (acts (listed stays)) (final machine emptyTable es)
   pub one-result : Every (λ s. count (machine .result) (acts s) ≤ 1) (allOf stays)
 
--- `rearranged`
+-- `rearranged`: THE THEOREM
 abbrev pub IsRearranged : Type 0
 IsRearranged = (es : List Event) → Rearranged es
 
@@ -183,17 +187,18 @@ given kind call place choice connection invoke = record {
   timer = 0;
 }
 
--- Call 1 alerts, call 2 is parked, and once more, which is refused. A pickrequ for the longest waiting position gets call 2. Call 3 is parked. The
--- pickup of call 2 succeeds, and it is released.
+-- Call 1 alerts and call 2 is parked, and once more, which is refused. Call 4 alerts. A pickrequ for the longest waiting position gets call 2. Call 3
+-- is parked. Call 2 is released; call 1 is answered.
 abbrev pub exampleRun : List Event
 exampleRun =
     given 2 1 0 0 0 0
     ∷ given 1 2 5 0 0 0
     ∷ given 1 2 6 0 0 0
+    ∷ given 2 4 0 0 0 0
     ∷ given 4 0 0 1 900 0
     ∷ given 1 3 0 0 0 0
-    ∷ given 5 2 0 0 0 1
     ∷ given 8 2 0 0 0 0
+    ∷ given 9 1 0 0 0 0
     ∷ []
 
 -- an event of an arrangement: its number in the run, and as what it is accepted again
@@ -203,8 +208,17 @@ told y = record { number = y .number; act = y .act .event }
 abbrev pub nth : ℕ → Event → Numbered Event
 nth n e = record { number = n; act = e }
 
--- `worked-out`: the stay of call 2 at place 5 has ended; those of call 1 on line 65 and of call 3 at place 1 run
+-- the stay of call 2, which ended first, and that of call 1, which began first
+abbrev pub exampleEnded : List (List (Numbered Event))
+exampleEnded =
+    (nth 2 (given 1 2 5 0 0 0) ∷ nth 4 (given 4 2 5 0 900 0) ∷ nth 6 (given 8 2 5 0 0 0) ∷ [])
+    ∷ (nth 1 (given 2 1 65 0 0 0) ∷ nth 7 (given 9 1 65 0 0 0) ∷ [])
+    ∷ []
+
+-- the stay of call 4 on a line, and that of call 3 at a position, which began after it
+abbrev pub exampleRunning : List (List (Numbered Event))
+exampleRunning = (nth 3 (given 2 4 66 0 0 0) ∷ []) ∷ (nth 5 (given 1 3 1 0 0 0) ∷ []) ∷ []
+
+-- `worked-out`: whatever meets the demand has these stays
 abbrev pub WorkedOut : Type 0
-WorkedOut = (r : Rearranged exampleRun)
-    → (map (map told) (r .stays .ended) ≡ (nth 2 (given 1 2 5 0 0 0) ∷ nth 3 (given 4 2 5 0 900 0) ∷ nth 5 (given 5 2 5 0 0 1) ∷ nth 6 (given 8 2 5 0 0 0) ∷ []) ∷ [])
-    × (map (map told) (r .stays .running) ≡ (nth 1 (given 2 1 65 0 0 0) ∷ []) ∷ (nth 4 (given 1 3 1 0 0 0) ∷ []) ∷ [])
+WorkedOut = (r : Rearranged exampleRun) → (map (map told) (r .stays .ended) ≡ exampleEnded) × (map (map told) (r .stays .running) ≡ exampleRunning)

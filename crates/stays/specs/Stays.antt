@@ -1,5 +1,5 @@
--- Stays: what a machine of places does, stay by stay. The definitions of the demand, over any machine: its runs, the stays of a run
--- (a fold over the accepted events), and the two parts of the demand that every machine with the laws of `proofs/Laws.antt` meets.
+-- Stays: what a machine of places does, stay by stay. Over any machine: its runs, the stays of a run by a fold over the accepted events, and two things
+-- that hold of this fold for every machine with the laws of `proofs/Laws.antt`. The demand itself, of the table, is `Demand.antt`.
 use mathlib.Core.Path.{_≡_}
 use mathlib.Core.Logic.{_⊎_}
 use mathlib.Core.Bool.{Bool, true, false}
@@ -160,10 +160,10 @@ module _ (m : Machine) where
   abbrev pub allStays : Stays (Done Event Answer) → List (List (Done Event Answer))
   allStays s = s .ended ++ map (λ (r : Stay (Done Event Answer)). r .events) (s .running)
 
-  -- THE DEMAND, first part
+  -- of the fold: its events, stay by stay, are accepted again, and lead to the same table
   abbrev pub Rearranges : Type 0
   Rearranges = (es : List Event) → Replays empty (stayByStay (stays none (run empty es))) (final empty es)
 
-  -- THE DEMAND, second part: every stay has at most one accepted pickup result
+  -- .. and every stay has at most one accepted pickup result
   abbrev pub OneResult : Type 0
   OneResult = (es : List Event) → Every (λ xs. count result xs ≤ 1) (allStays (stays none (run empty es)))
