@@ -1,7 +1,7 @@
 -- The machine refuses by the first row of the paper's table that holds. By the event's kind: each rule's aim and turn give their refusals in
 -- the order of the rows, and the rows of other kinds do not hold.
 use mathlib.Core.Path.{_≡_, refl, sym, _∙_, subst}
-use mathlib.Core.Bool.{Bool, true, false, cond, not, _&&_, or-false}
+use mathlib.Core.Bool.{Bool, true, false, cond, not, _&&_, _||_, or-false}
 use mathlib.Core.Logic.{_⊎_, inl, inr, ⊎-elim}
 use Prim.Native.Nat.{ℕ, zero, suc, _<_, _≤_}
 use native.Mathlib.Nat.{eq-or-lt-of-le}
@@ -217,7 +217,7 @@ module _ (t : Table) (size : length (t .places) ≡ placeCount) (s : Signal) (nu
   PickupRows e = carriedOut (On s) t e (aimFor t e (soughtPickup (e .choice))) .answer .number
       ≡ cond (ltb 2 (e .choice)) 2
       (cond (eqb (e .choice) 0 && not (isFound (findCall t (e .call)))) 5
-      (cond (not (eqb (e .choice) 0) && not (isFound (nextWaiting t (cond (eqb (e .choice) 1) Position Line)))) 6
+      (cond ((eqb (e .choice) 1 || eqb (e .choice) 2) && not (isFound (nextWaiting t (cond (eqb (e .choice) 1) Position Line)))) 6
       (cond (eqb (e .choice) 0 && sameState (recordFound t (findCall t (e .call)) .state) Requested) 7
       (cond (eqb (e .choice) 0 && sameState (recordFound t (findCall t (e .call)) .state) RemoteRequested) 11
       (cond (eqb (e .choice) 0 && sameState (recordFound t (findCall t (e .call)) .state) HandedOver) 12 0)))))

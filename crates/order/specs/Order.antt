@@ -100,7 +100,7 @@ module _ (t : Table) (e : Event) where
       -- kinds 3, 4 with choice 0, and 5 to 10: call not in the table
       ∷ row 5 ((byChoice0 || isLater) && not (isFound held))
       -- choice 1 or 2: nothing waits there
-      ∷ row 6 (isPickup && not (eqb (e .choice) 0) && not (isFound (nextWaiting t (cond (eqb (e .choice) 1) Position Line))))
+      ∷ row 6 (isPickup && (eqb (e .choice) 1 || eqb (e .choice) 2) && not (isFound (nextWaiting t (cond (eqb (e .choice) 1) Position Line))))
       -- choice 0: call in state 3, 4 or 5. Q-3: "Keep 7 for state 3, and use 11 for state 4 and 12 for state 5."
       ∷ row 7 (byChoice0 && sameState state Requested)
       ∷ row 11 (byChoice0 && sameState state RemoteRequested)
