@@ -175,7 +175,7 @@ ServesFirst = (es : List Event) (e : Event) (a : Side) → (e .kind ≡ 3) ⊎ (
 
 -- ---- (f) a run, worked out
 
--- an event of its fields, the call by its number
+-- an event: its kind, the number of its call, its place, choice, connection and invoke
 abbrev pub given : ℕ → ℕ → ℕ → ℕ → ℕ → ℕ → Event
 given kind call place choice connection invoke = record {
   kind = kind;
