@@ -15,8 +15,8 @@
 --   "in no stay are two pickup results accepted"    .one-result
 --
 -- Then what is promised beyond it: the same stays by a fold (`same-stays`) and what they are like (`each-stay`), who is told how a pickrequ came out
--- (`tells-requester`), who is served first (`serves-first`). At the end a run is worked out (`worked-out`). The theorems of this page are those of
--- `proofs/Demand.antt`.
+-- (`tells-requester`), who is served first (`serves-first`). At the end two runs are worked out (`worked-out`, `own-events`). The theorems of this
+-- page are those of `proofs/Demand.antt`.
 use mathlib.Core.Path.{_≡_}
 use mathlib.Core.Logic.{_⊎_}
 use mathlib.Core.Bool.{Bool}
@@ -173,7 +173,7 @@ abbrev pub ServesFirst : Type 0
 ServesFirst = (es : List Event) (e : Event) (a : Side) → (e .kind ≡ 3) ⊎ (e .kind ≡ 4) → e .choice ≡ choiceOf a
     → IsAccepted (final machine emptyTable es) e → IsFirst es a (stepOf (final machine emptyTable es) e .answer)
 
--- ---- (f) a run, worked out
+-- ---- (f) two runs, worked out
 
 -- an event: its kind, the number of its call, its place, choice, connection and invoke
 abbrev pub given : ℕ → ℕ → ℕ → ℕ → ℕ → ℕ → Event
@@ -222,3 +222,18 @@ exampleRunning = (nth 3 (given 2 4 66 0 0 0) ∷ []) ∷ (nth 5 (given 1 3 1 0 0
 -- `worked-out`: whatever meets the demand has these stays
 abbrev pub WorkedOut : Type 0
 WorkedOut = (r : Rearranged exampleRun) → (map (map told) (r .stays .ended) ≡ exampleEnded) × (map (map told) (r .stays .running) ≡ exampleRunning)
+
+-- a call that is parked, asked for in vain and released, and then parked and released once more, at the same place
+abbrev pub sameCallTwice : List Event
+sameCallTwice =
+    given 1 1 1 0 0 0
+    ∷ given 4 1 0 0 900 0
+    ∷ given 6 1 0 0 0 1
+    ∷ given 8 1 0 0 0 0
+    ∷ given 1 1 1 0 0 0
+    ∷ given 8 1 0 0 0 0
+    ∷ []
+
+-- `own-events`: each of its two stays has its own events, though they would be accepted in the other too
+abbrev pub OwnEvents : Type 0
+OwnEvents = (r : Rearranged sameCallTwice) → map (map (λ (y : Numbered Act). y .number)) (r .stays .ended) ≡ (1 ∷ 2 ∷ 3 ∷ 4 ∷ []) ∷ (5 ∷ 6 ∷ []) ∷ []
