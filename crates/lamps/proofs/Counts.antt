@@ -2,7 +2,7 @@
 -- growth of a number of the stays by one event (`Along`), by the five moves.
 use mathlib.Core.Path.{_≡_, refl, sym, ap, _∙_}
 use mathlib.Core.Bool.{Bool, true, false, cond, _&&_, _||_}
-use mathlib.Core.List.{List, [], _∷_, _++_, map}
+use mathlib.Core.List.{List, [], _∷_, _++_}
 use Prim.Native.Nat.{ℕ, _+_}
 use native.Mathlib.Nat.{zero-add}
 use native.Mathlib.Omega.{arith}
@@ -15,7 +15,7 @@ use Rattle.events.specs.declared.Event.{Event}
 use Rattle.events.specs.declared.Answer.{Answer}
 use Rattle.step.specs.Step.{stepOf}
 use Rattle.step.specs.Promises.{Move, starts, goes-on, hands-over, ends, is-left, indexAt, AtOnePlace}
-use Rattle.stays.specs.Stays.{one-if, count, Stay, Stays, none, run, stays, allStays}
+use Rattle.stays.specs.Stays.{one-if, count, Stay, Stays, none, run, stays, allStays, each}
 use Rattle.stays.specs.ParkTable.{machine}
 use Rattle.stays.specs.Demand.{Act}
 use Rattle.stays.proofs.Lists.{count-append}
@@ -43,12 +43,12 @@ count-weight : (h : List Act → Bool) (xss : List (List Act)) → count h xss �
 count-weight h [] = refl
 count-weight h (xs ∷ xss) = ap (λ (n : ℕ). one-if (h xs) + n) (count-weight h xss)
 
-running-count : (h : List Act → Bool) (ss : List (Stay Act)) → count h (map (λ (s : Stay Act). s .events) ss) ≡ running-weight (λ xs. one-if (h xs)) ss
+running-count : (h : List Act → Bool) (ss : List (Stay Act)) → count h (each ss) ≡ running-weight (λ xs. one-if (h xs)) ss
 running-count h [] = refl
 running-count h (s ∷ ss) = ap (λ (n : ℕ). one-if (h (s .events)) + n) (running-count h ss)
 
 all-count : (h : List Act → Bool) (s : Stays Act) → count h (allStays machine s) ≡ weight (λ xs. one-if (h xs)) s
-all-count h s = omega (arith, count-append h (s .ended) (map (λ (r : Stay Act). r .events) (s .running)), count-weight h (s .ended), running-count h (s .running))
+all-count h s = omega (arith, count-append h (s .ended) (each (s .running)), count-weight h (s .ended), running-count h (s .running))
 
 -- the call of a stay with one event more
 call-snoc : (old : List Act) (x : Act) → callIn old ≡ x .answer .call → callIn (old ++ (x ∷ [])) ≡ x .answer .call

@@ -37,8 +37,8 @@ use Rattle.lines.proofs.BadField.{bad-field-stands}
 use Rattle.lines.proofs.Faults.{fault-most, no-fault}
 use Rattle.image.specs.Image.{imageOctets, imageOf, statesFit, placesSound, isSoundImage, tableFrom}
 use Rattle.image.proofs.Round.{size-from, wide-from}
-use Rattle.order.specs.Order.{firstOf, eventRows}
-use Rattle.order.specs.Entry.{firstBadFrom, firstBad, Comes, EntryInOrder, EntryAnswers, FeedIsRefused, EmptyIs22}
+use Rattle.order.specs.Order.{Row, firstOf, eventRows}
+use Rattle.order.specs.Entry.{firstBadFrom, firstBad, lineRows, Comes, EntryInOrder, EntryAnswers, FeedIsRefused, EmptyIs22}
 use Rattle.order.proofs.Order.{in-order}
 use Rattle.order.proofs.Feeds.{feed-stands}
 pub use Rattle.order.proofs.Feeds.{feed-is-bad}
@@ -95,15 +95,8 @@ module _ (line : List ℕ) where
   blames-none q =
       none-bad line 7 1 (λ j low high. bad-field-stands line .all-good (number-is ∙ ap faultNumber q) j (omega arith) (omega arith))
 
-  -- rows 21 to 24, and what comes after them
-  abbrev lineRows : ℕ → ℕ
-  lineRows after =
-      cond (ltb longestEvent (length line)) 21
-      (cond (not (eqb (tabs line + 1) 7)) 22
-      (cond (not (eqb (firstBad line) 0) && not (eqb (firstBad line) 2)) 23
-      (cond (eqb (firstBad line) 2) 24 after)))
-
-  by-fault : (f : Fault) → fault ≡ f → Verdict longestEvent eventFields line f → (after : ℕ) → lineRows after ≡ cond (eqb (faultNumber f) 0) after (faultNumber f)
+  -- rows 21 to 24 refuse by the number of the fault, and let a line without one through
+  by-fault : (f : Fault) → fault ≡ f → Verdict longestEvent eventFields line f → (after : List Row) → firstOf (lineRows line after) ≡ cond (eqb (faultNumber f) 0) (firstOf after) (faultNumber f)
   by-fault NoFault q says after = rw (not-long (says .0), seven (says .0), blames-none q)
   by-fault TooLong q says after = rw (lt-ltb longestEvent (length line) says)
   by-fault WrongCount q says after =
@@ -114,12 +107,12 @@ module _ (line : List ℕ) where
       let some : eqb i 0 ≡ false = ne-eqb i 0 (λ e. omega (arith, says .1 .counted)) in
       rw (not-long (says .0), seven (says .0), blames i q says, some) (by (eqb i 2))
     where
-      by : (b : Bool) → cond (true && not b) 23 (cond b 24 after) ≡ cond (eqb (cond b 24 23) 0) after (cond b 24 23)
+      by : (b : Bool) → cond (true && not b) 23 (cond b 24 (firstOf after)) ≡ cond (eqb (cond b 24 23) 0) (firstOf after) (cond b 24 23)
       by true = refl
       by false = refl
 
-  line-rows : (after : ℕ) → lineRows after ≡ cond (eqb (readLine line .number) 0) after (readLine line .number)
-  line-rows after = by-fault fault refl meaning after ∙ ap (λ (n : ℕ). cond (eqb n 0) after n) (sym number-is)
+  line-rows : (after : List Row) → firstOf (lineRows line after) ≡ cond (eqb (readLine line .number) 0) (firstOf after) (readLine line .number)
+  line-rows after = by-fault fault refl meaning after ∙ ap (λ (n : ℕ). cond (eqb n 0) (firstOf after) n) (sym number-is)
 
 -- ---- the entry
 
@@ -135,8 +128,8 @@ module _ (image line : List ℕ) where
   event-rows sound = in-order table said (size-from image, wide-from image) ∙ rw sound
 
   -- the line at the table
-  at-table : isSound table ≡ true → lineStep table line .answer .number ≡ lineRows line (firstOf (eventRows table said))
-  at-table sound = by (eqb (readLine line .number) 0) ∙ sym (line-rows line (firstOf (eventRows table said)))
+  at-table : isSound table ≡ true → lineStep table line .answer .number ≡ firstOf (lineRows line (eventRows table said))
+  at-table sound = by (eqb (readLine line .number) 0) ∙ sym (line-rows line (eventRows table said))
     where
       by : (b : Bool) → cond b (stepOf table said) (record { table = table; answer = saying (readLine line .number) NoMessage }) .answer .number
           ≡ cond b (firstOf (eventRows table said)) (readLine line .number)
@@ -145,12 +138,12 @@ module _ (image line : List ℕ) where
 
   -- the line at the image
   at-image : stepOn image line .answer .number
-      ≡ cond (not (eqb (length image) imageOctets) || not (placesSound image)) 25 (lineRows line (firstOf (eventRows table said)))
+      ≡ cond (not (eqb (length image) imageOctets) || not (placesSound image)) 25 (firstOf (lineRows line (eventRows table said)))
   at-image = by (eqb (length image) imageOctets) (placesSound image) refl
     where
       by : (a b : Bool) → placesSound image ≡ b
           → stepAt (cond (a && b) (record { number = 0; table = table }) (record { number = 25; table = emptyTable })) line .answer .number
-          ≡ cond (not a || not b) 25 (lineRows line (firstOf (eventRows table said)))
+          ≡ cond (not a || not b) 25 (firstOf (lineRows line (eventRows table said)))
       by true true q = at-table (and-right (statesFit image) (isSound table) q)
       by true false q = refl
       by false true q = refl
@@ -217,7 +210,7 @@ feed-unread a b accepted =
 
 pub feed-is-refused : FeedIsRefused
 feed-is-refused image answer a b =
-    by (isShort answer) bad (at-image image line ∙ ap (λ (n : ℕ). cond bad 25 n) (line-rows line (firstOf (eventRows (tableFrom image) (readLine line .event)))))
+    by (isShort answer) bad (at-image image line ∙ ap (λ (n : ℕ). cond bad 25 n) (line-rows line (eventRows (tableFrom image) (readLine line .event))))
   where
     line : List ℕ
     line = a ++ (10 ∷ b)
@@ -238,7 +231,7 @@ feed-is-refused image answer a b =
 pub empty-is-22 : EmptyIs22
 empty-is-22 image answer = ap (λ (n : ℕ). cond (isShort answer) 26 n) (at-image image [] ∙ by (eqb (length image) imageOctets) (placesSound image))
   where
-    by : (a b : Bool) → cond (not a || not b) 25 (lineRows [] (firstOf (eventRows (tableFrom image) (readLine [] .event)))) ≡ cond (a && b) 22 25
+    by : (a b : Bool) → cond (not a || not b) 25 (firstOf (lineRows [] (eventRows (tableFrom image) (readLine [] .event)))) ≡ cond (a && b) 22 25
     by true true = refl
     by true false = refl
     by false true = refl

@@ -27,6 +27,19 @@ firstBadFrom i (suc k) line = cond (isGood i line) (firstBadFrom (suc i) k line)
 abbrev pub firstBad : List ℕ → ℕ
 firstBad line = firstBadFrom 1 7 line
 
+-- the rows of a line, and those after them
+abbrev pub lineRows : List ℕ → List Row → List Row
+lineRows line after =
+    -- line longer than 62 octets, line end not counted
+    row 21 (ltb longestEvent (length line))
+    -- not exactly seven fields
+    ∷ row 22 (not (eqb (tabs line + 1) 7))
+    -- first bad field is a number; the second is the call
+    ∷ row 23 (not (eqb (firstBad line) 0) && not (eqb (firstBad line) 2))
+    -- first bad field is the call
+    ∷ row 24 (eqb (firstBad line) 2)
+    ∷ after
+
 module _ (image line answer : List ℕ) where
   -- THE TABLE OF REFUSALS, WHOLE
   abbrev pub entryRows : List Row
@@ -35,16 +48,8 @@ module _ (image line answer : List ℕ) where
       row 26 (ltb (length answer) answerRoom)
       -- image not 2,016 octets; Q-4: 2,112; or table not sound
       ∷ row 25 (not (eqb (length image) imageOctets) || not (placesSound image))
-      -- line longer than 62 octets, line end not counted
-      ∷ row 21 (ltb longestEvent (length line))
-      -- not exactly seven fields
-      ∷ row 22 (not (eqb (tabs line + 1) 7))
-      -- first bad field is a number; the second is the call
-      ∷ row 23 (not (eqb (firstBad line) 0) && not (eqb (firstBad line) 2))
-      -- first bad field is the call
-      ∷ row 24 (eqb (firstBad line) 2)
-      -- 1 to 12, of the event that the line says and the table that the image says
-      ∷ eventRows (tableFrom image) (readLine line .event)
+      -- 21 to 24, and then 1 to 12, of the event that the line says and the table that the image says
+      ∷ lineRows line (eventRows (tableFrom image) (readLine line .event))
 
   -- the number of the answer; 26 has none
   abbrev pub numberAt : ℕ

@@ -7,7 +7,7 @@ use Prim.Native.Nat.{ℕ, _≤_}
 use Rattle.table.specs.declared.Place.{Place}
 use Rattle.table.specs.Places.{emptyTable, placeAt, indexOf}
 use Rattle.events.specs.declared.Event.{Event}
-use Rattle.stays.specs.Stays.{Stay, Stays, Every, BeginsBy, none, stays, count, joined, eventsOf, stayByStay, allStays, Replays, final}
+use Rattle.stays.specs.Stays.{Stay, Stays, Every, BeginsBy, none, stays, count, joined, stayByStay, allStays, Replays, final, each}
 use Rattle.stays.specs.Arranged.{Numbered, Arrangement, numbered, acts, allOf, listed}
 use Rattle.stays.specs.ParkTable.{machine}
 use Rattle.stays.specs.Demand.{Act, acceptedOf, staysOf, IsStart, OfStay, Frees, Runs, Ended, Running, IsArranged, IsRearranged, SameStays}
@@ -39,19 +39,15 @@ tells = record {
   either = λ xs e r. every-last (λ x. Frees x → ⊥) (e .before) (e .last) (subst (Every (λ x. Frees x → ⊥)) (e .all) (r .2 .held)) (e .frees);
 }
 
-run-on : (ss : List (Stay Act)) → Every (λ s. (call : List ℕ) × Runs (placeAt (s .at)) call (s .events)) ss → Every Running (map (λ (s : Stay Act). s .events) ss)
+run-on : (ss : List (Stay Act)) → Every (λ s. (call : List ℕ) × Runs (placeAt (s .at)) call (s .events)) ss → Every Running (each ss)
 run-on [] h = tt
 run-on (s ∷ ss) h = ((placeAt (s .at), h .0 .0, h .0 .1), run-on ss (h .1))
 
 -- ---- the arrangement
 
-events-of : (ss : List (Stay (Numbered Act))) → map acts (map (λ (s : Stay (Numbered Act)). s .events) ss) ≡ map (λ (s : Stay Act). s .events) (map (plain (λ (y : Numbered Act). y .act)) ss)
+events-of : (ss : List (Stay (Numbered Act))) → map acts (each ss) ≡ each (map (plain (λ (y : Numbered Act). y .act)) ss)
 events-of [] = refl
 events-of (s ∷ ss) = ap (λ l. acts (s .events) ∷ l) (events-of ss)
-
-joined-events : (ss : List (Stay Act)) → joined (map (λ (s : Stay Act). s .events) ss) ≡ eventsOf ss
-joined-events [] = refl
-joined-events (s ∷ ss) = ap (λ l. s .events ++ l) (joined-events ss)
 
 module _ (es : List Event) where
   abbrev numberedStays : Stays (Numbered Act)
@@ -69,8 +65,8 @@ module _ (es : List Event) where
   ended-are : map acts (made .ended) ≡ staysOf es .ended
   ended-are = ap (λ (s : Stays Act). s .ended) forgotten
 
-  running-are : map acts (made .running) ≡ map (λ (s : Stay Act). s .events) (staysOf es .running)
-  running-are = events-of (numberedStays .running) ∙ ap (λ (s : Stays Act). map (λ (r : Stay Act). r .events) (s .running)) forgotten
+  running-are : map acts (made .running) ≡ each (staysOf es .running)
+  running-are = events-of (numberedStays .running) ∙ ap (λ (s : Stays Act). each (s .running)) forgotten
 
   all-are : map acts (allOf made) ≡ allStays machine (staysOf es)
   all-are = map-append acts (made .ended) (made .running) ∙ ap₂ (λ (a b : List (List Act)). a ++ b) ended-are running-are
@@ -79,7 +75,7 @@ module _ (es : List Event) where
   listed-are =
       map-joined (λ (y : Numbered Act). y .act) (allOf made)
       ∙ (ap joined all-are
-      ∙ (joined-append (staysOf es .ended) (map (λ (s : Stay Act). s .events) (staysOf es .running)) ∙ ap (λ l. joined (staysOf es .ended) ++ l) (joined-events (staysOf es .running))))
+      ∙ joined-append (staysOf es .ended) (each (staysOf es .running)))
 
   pub is-arranged : IsArranged es made
   is-arranged = record {

@@ -5,7 +5,7 @@ use mathlib.Core.Logic.{inl, inr}
 use mathlib.Core.List.{List, [], _∷_, _++_, map, append-nil, append-assoc}
 use Prim.Native.Nat.{ℕ}
 use native.Mathlib.Decide.{ℕ-discrete}
-use Rattle.stays.specs.Stays.{Mark, starts, goes-on, ends, Stay, Stays, In, placesOf, Every, longer, others, eventsAt, add, joined}
+use Rattle.stays.specs.Stays.{Mark, starts, goes-on, ends, Stay, Stays, In, placesOf, Every, longer, others, eventsAt, add, joined, each}
 use Rattle.stays.specs.Arranged.{Numbered, Arrangement, listed, at}
 use Rattle.stays.proofs.Lists.{every-append, joined-append}
 use Rattle.stays.proofs.Places.{Distinct, Allowed, distinct-snoc, distinct-without, places-snoc, places-longer, places-others, events-here, events-there, longer-here, longer-there, no-events, none-longer, events-others, none-left}
@@ -14,7 +14,7 @@ use Rattle.stays.proofs.Starts.{every-others}
 
 -- the arrangement that stays of the fold are
 abbrev pub arranged : {X : Type 0} → Stays (Numbered X) → Arrangement X
-arranged {X} s = record { ended = s .ended; running = map (λ (r : Stay (Numbered X)). r .events) (s .running) }
+arranged {X} s = record { ended = s .ended; running = each (s .running) }
 
 -- ---- at a place, the events so far and one more
 
@@ -40,12 +40,12 @@ module _ {X : Type 0} (place : X → ℕ) where
 
   -- what stands at a place of the running stays is the stay there
   at-running : (p : ℕ) (ss : List (Stay (Numbered X))) → Settled ss → Distinct (placesOf ss)
-      → at place p (joined (map (λ (r : Stay (Numbered X)). r .events) ss)) ≡ eventsAt p ss
+      → at place p (joined (each ss)) ≡ eventsAt p ss
   at-running p [] h d = refl
-  at-running p (s ∷ ss) h d = at-append place p (s .events) (joined (map (λ (r : Stay (Numbered X)). r .events) ss)) ∙ by (ℕ-discrete p (s .at)) (at-running p ss (h .1) (d .1))
+  at-running p (s ∷ ss) h d = at-append place p (s .events) (joined (each ss)) ∙ by (ℕ-discrete p (s .at)) (at-running p ss (h .1) (d .1))
     where
       rest : List (Numbered X)
-      rest = at place p (joined (map (λ (r : Stay (Numbered X)). r .events) ss))
+      rest = at place p (joined (each ss))
 
       by : Dec (p ≡ s .at) → rest ≡ eventsAt p ss → at place p (s .events) ++ rest ≡ eventsAt p (s ∷ ss)
       by (yes e) rec =
@@ -152,7 +152,7 @@ module _ {X : Type 0} (place : X → ℕ) where
   -- what stands at a place: of the ended stays, and then the stay that runs there
   stands : (p : ℕ) (s : Stays (Numbered X)) → Placed (s .running) → at place p (listed (arranged s)) ≡ at place p (joined (s .ended)) ++ eventsAt p (s .running)
   stands p s o =
-      let running = map (λ (r : Stay (Numbered X)). r .events) (s .running) in
+      let running = each (s .running) in
       ap (at place p) (joined-append (s .ended) running)
       ∙ (at-append place p (joined (s .ended)) (joined running)
       ∙ ap (λ l. at place p (joined (s .ended)) ++ l) (at-running p (s .running) (o .settled) (o .distinct)))

@@ -8,7 +8,7 @@ use Prim.Native.Nat.{ℕ, _<_}
 use native.Mathlib.Decide.{ℕ-discrete}
 use lib.ListN.{length, getD, set, replicate}
 use lib.Seq.{getD-set-same, getD-set-other, ext-getD, append-snoc}
-use Rattle.stays.specs.Stays.{In, placesOf, Done, Machine, Replays, stop, Stay, Stays, joined, eventsOf, stayByStay}
+use Rattle.stays.specs.Stays.{In, placesOf, Done, Machine, Replays, stop, Stay, Stays, joined, stayByStay, each}
 use Rattle.stays.proofs.Places.{dec-in, Distinct}
 use Rattle.stays.proofs.Laws.{Laws}
 use Rattle.stays.proofs.Part.{Part, Whole, embed, embed-whole, getD-free, replays-append, part-inside, within, Elsewhere}
@@ -54,7 +54,7 @@ module _ (m : Machine) (l : Laws m) where
 
   build : {f : Table} {cs : List Core} {fo : List ℕ} → Shows f cs fo → (ss : List (Stay (Done Event Answer))) → Opens cs ss → Distinct (placesOf ss)
       → {t : Table} {us : List Core} {o : List ℕ} → Shows t us o → ((j : ℕ) → Due us cs (placesOf ss) j)
-      → (v : Table) × Replays m t (eventsOf ss) v × Shows v cs (o ++ placesOf ss)
+      → (v : Table) × Replays m t (joined (each ss)) v × Shows v cs (o ++ placesOf ss)
   build {f} {cs} {fo} shf [] os ds {t} {us} {o} sh due =
       let lengths : length us ≡ length cs = shows-size sh ∙ sym (shows-size shf) in
       let same : us ≡ cs = ext-getD free us cs lengths (λ i h. final i (due i)) in

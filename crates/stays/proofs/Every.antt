@@ -1,8 +1,8 @@
 -- What holds of each stay that is built event by event (`Part`, and `Whole` for an ended one) holds of every stay of a run: by the
 -- invariant, the ended stays are whole and the running ones are parts.
-use mathlib.Core.List.{List, [], _∷_, map}
+use mathlib.Core.List.{List, [], _∷_}
 use Prim.Native.Nat.{ℕ}
-use Rattle.stays.specs.Stays.{Done, Machine, Stay, Stays, Every, none, run, stays, allStays}
+use Rattle.stays.specs.Stays.{Done, Machine, Stay, Stays, Every, none, run, stays, allStays, each}
 use Rattle.stays.proofs.Lists.{every-append}
 use Rattle.stays.proofs.Laws.{Laws}
 use Rattle.stays.proofs.Part.{Part, Whole}
@@ -20,7 +20,7 @@ module _ (m : Machine) (l : Laws m) where
 
   module _ (P : List (Done Event Answer) → Type 0) (part : (p : ℕ) (c : Call) (xs : List (Done Event Answer)) (r : Core) → Part m l p c xs r → P xs)
       (end : (xs : List (Done Event Answer)) → Whole m l xs → P xs) where
-    every-running : (cs : List Core) (ss : List (Stay (Done Event Answer))) → Opens m l cs ss → Every P (map (λ (s : Stay (Done Event Answer)). s .events) ss)
+    every-running : (cs : List Core) (ss : List (Stay (Done Event Answer))) → Opens m l cs ss → Every P (each ss)
     every-running cs [] os = tt
     every-running cs (s ∷ ss) os = (part (s .at) (os .0 .whose) (s .events) _ (os .0 .part), every-running cs ss (os .1))
 
@@ -28,5 +28,5 @@ module _ (m : Machine) (l : Laws m) where
     every-stay es =
         let s : Stays (Done Event Answer) = stays m none (run m empty es) in
         let v = inv-all m l es in
-        every-append P (s .ended) (map (λ (r : Stay (Done Event Answer)). r .events) (s .running)) (every-ended P end (s .ended) (v .wholes))
+        every-append P (s .ended) (each (s .running)) (every-ended P end (s .ended) (v .wholes))
         (every-running (v .cores) (s .running) (v .opens))

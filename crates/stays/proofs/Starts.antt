@@ -4,7 +4,7 @@ use mathlib.Core.Path.{_≡_, refl, sym, ap, ap₂, subst, _∙_}
 use mathlib.Core.List.{List, [], _∷_, _++_, map}
 use Prim.Native.Nat.{ℕ, suc, _<_}
 use native.Mathlib.Decide.{ℕ-discrete}
-use Rattle.stays.specs.Stays.{Mark, starts, goes-on, ends, Stay, Stays, Every, longer, others, add}
+use Rattle.stays.specs.Stays.{Mark, starts, goes-on, ends, Stay, Stays, Every, longer, others, add, each}
 use Rattle.stays.specs.Arranged.{Numbered, Rising, firstNumber}
 use Rattle.stays.proofs.Lists.{every-append, map-snoc}
 use Rattle.stays.proofs.Rising.{below-more, rising-snoc, below-snoc}
@@ -25,7 +25,7 @@ module _ {X : Type 0} where
   first-snoc (z ∷ ys) y b = refl
 
   abbrev pub firsts : List (Stay (Numbered X)) → List ℕ
-  firsts ss = map firstNumber (map (λ (r : Stay (Numbered X)). r .events) ss)
+  firsts ss = map firstNumber (each ss)
 
   -- stays that have begun, in the order of their starts, the last of which has a number below n
   pub record Started (n : ℕ) (ss : List (Stay (Numbered X))) : Type 0 where
@@ -34,7 +34,7 @@ module _ {X : Type 0} where
     begun : Every (λ r. Begun (r .events)) ss
 
   firsts-snoc : (ss : List (Stay (Numbered X))) (r : Stay (Numbered X)) → firsts (ss ++ (r ∷ [])) ≡ firsts ss ++ (firstNumber (r .events) ∷ [])
-  firsts-snoc ss r = ap (map firstNumber) (map-snoc (λ (s : Stay (Numbered X)). s .events) ss r) ∙ map-snoc firstNumber (map (λ (s : Stay (Numbered X)). s .events) ss) (r .events)
+  firsts-snoc ss r = ap (map firstNumber) (map-snoc (λ (s : Stay (Numbered X)). s .events) ss r) ∙ map-snoc firstNumber (each ss) (r .events)
 
   -- ---- one stay is longer
 

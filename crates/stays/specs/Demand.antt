@@ -36,7 +36,7 @@ use Rattle.events.specs.Reply.{replies, RepliesOnce}
 use Rattle.step.specs.Edges.{callNo}
 use Rattle.step.specs.Step.{stepOf}
 use Rattle.step.specs.Promises.{IsAccepted, choiceOf, Waits}
-use Rattle.stays.specs.Stays.{In, Before, placesOf, Done, Stay, Stays, Every, BeginsBy, count, none, final, run, stays, Replays, allStays}
+use Rattle.stays.specs.Stays.{In, Before, placesOf, Done, Stays, Every, BeginsBy, count, none, final, run, stays, Replays, allStays, each}
 use Rattle.stays.specs.Arranged.{Numbered, Arrangement, acts, allOf, listed, StayByStay}
 use Rattle.stays.specs.ParkTable.{machine}
 
@@ -120,7 +120,7 @@ staysOf es = stays machine none (acceptedOf es)
 -- `same-stays`: the fold gives the stays of the demand
 abbrev pub SameStays : Type 0
 SameStays = (es : List Event) (r : Rearranged es)
-    → (map acts (r .stays .ended) ≡ staysOf es .ended) × (map acts (r .stays .running) ≡ map (λ (s : Stay Act). s .events) (staysOf es .running))
+    → (map acts (r .stays .ended) ≡ staysOf es .ended) × (map acts (r .stays .running) ≡ each (staysOf es .running))
 
 -- `each-stay`
 abbrev pub EachStay : Type 0

@@ -108,13 +108,13 @@ module _ {X : Type 0} where
   joined [] = []
   joined (xs ∷ xss) = xs ++ joined xss
 
-  abbrev pub eventsOf : List (Stay X) → List X
-  eventsOf [] = []
-  eventsOf (s ∷ ss) = s .events ++ eventsOf ss
+  -- the events of each running stay
+  abbrev pub each : List (Stay X) → List (List X)
+  each ss = map (λ (s : Stay X). s .events) ss
 
   -- stay by stay: the ended first, then the running
   abbrev pub stayByStay : Stays X → List X
-  stayByStay s = joined (s .ended) ++ eventsOf (s .running)
+  stayByStay s = joined (s .ended) ++ joined (each (s .running))
 
   abbrev pub keep : Bool → X → List X → List X
   keep true x xs = x ∷ xs
@@ -158,7 +158,7 @@ module _ (m : Machine) where
 
   -- the events of each stay
   abbrev pub allStays : Stays (Done Event Answer) → List (List (Done Event Answer))
-  allStays s = s .ended ++ map (λ (r : Stay (Done Event Answer)). r .events) (s .running)
+  allStays s = s .ended ++ each (s .running)
 
   -- of the fold: its events, stay by stay, are accepted again, and lead to the same table
   abbrev pub Rearranges : Type 0
