@@ -1,6 +1,7 @@
 // What the clauses of H.450.5 have a desk phone do while a call is parked: the events and states of the parking endpoint (`parking`, clause 7.1) and
 // of the parked endpoint (`parked`, clause 7.2), and here what the two share. In specs/ each has its clause table, and what is promised of both; the
 // crate `phones` runs them.
+#![tactic(auto)]
 
 pub mod parked;
 pub mod parking;
@@ -10,7 +11,7 @@ ghost use Rattle.clauses.specs.Answer.{wire_error, value_of, timer_number};
 
 // An error as it stands on the wire. Clause 11 has 2000 for callPickupIdInvalid, 2001 for call_already_picked_up, 2002 for undefined; every other value
 // is handed on as it comes.
-#[derive(Drop)]
+#[derive(Clone, Copy)]
 pub struct ErrorValue(pub u16);
 
 pub const CALL_ALREADY_PICKED_UP: u16 = 2001;
@@ -18,28 +19,28 @@ pub const CALL_ALREADY_PICKED_UP: u16 = 2001;
 pub const UNDEFINED: u16 = 2002;
 
 // The error of one of the table's answers, on the wire.
-#[derive(Drop)]
+#[derive(Clone, Copy)]
 pub enum WireError {
     NoError,
     Is(ErrorValue),
 }
 
 // How an operation failed: a Return Error has a value, a Reject has none.
-#[derive(Drop)]
+#[derive(Clone, Copy)]
 pub enum Failure {
     ReturnError(ErrorValue),
     Reject,
 }
 
 // Whether the endpoint takes part in what it is asked for, and the error value if it does not.
-#[derive(Drop)]
+#[derive(Clone, Copy)]
 pub enum Decision {
     Accept,
     TurnDown(ErrorValue),
 }
 
 // A timer of clause 10.4, or none.
-#[derive(Drop)]
+#[derive(Clone, Copy)]
 pub enum Timer {
     NoTimer,
     T1,
@@ -48,7 +49,7 @@ pub enum Timer {
 }
 
 // What an endpoint sends. The held call is the parked one, to the parked-to endpoint.
-#[derive(Drop)]
+#[derive(Clone, Copy)]
 pub enum Message {
     NoMessage,
     // FACILITY with cpRequest Invoke, on the primary call
@@ -74,7 +75,7 @@ pub enum Message {
 }
 
 // What the local user is told.
-#[derive(Drop)]
+#[derive(Clone, Copy)]
 pub enum Report {
     Quiet,
     // the endpoint itself turned the user's request down: no error came
@@ -83,7 +84,7 @@ pub enum Report {
     Failed(ErrorValue),
 }
 
-#[derive(Drop)]
+#[derive(Clone, Copy)]
 pub struct Answer {
     // 0, or the refusal 33
     pub number: u8,

@@ -4,14 +4,14 @@
 use crate::{Answer, Decision, Failure};
 
 // The states of clause 10.3.2.
-#[derive(Drop)]
+#[derive(Clone, Copy)]
 pub enum State {
     CpIdle,
     CpSetupRequ,
     CpickupSetupInit,
 }
 
-#[derive(Drop)]
+#[derive(Clone, Copy)]
 pub enum Event {
     // cpRequest Invoke, on the primary call
     Request(Decision),
@@ -42,7 +42,7 @@ pub enum Event {
 }
 
 // The state after an event, and the answer.
-#[derive(Drop)]
+#[derive(Clone, Copy)]
 pub struct Step {
     pub state: State,
     pub answer: Answer,

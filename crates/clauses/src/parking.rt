@@ -3,13 +3,13 @@
 use crate::{Answer, Failure};
 
 // The states of clause 10.3.1.
-#[derive(Drop)]
+#[derive(Clone, Copy)]
 pub enum State {
     CpIdle,
     CpRequested,
 }
 
-#[derive(Drop)]
+#[derive(Clone, Copy)]
 pub enum Event {
     // the user asks to park; does the endpoint accept that
     ParkRequest(bool),
@@ -23,7 +23,7 @@ pub enum Event {
 }
 
 // The state after an event, and the answer.
-#[derive(Drop)]
+#[derive(Clone, Copy)]
 pub struct Step {
     pub state: State,
     pub answer: Answer,

@@ -1,5 +1,6 @@
 // A session over standard input and standard output: all that a read brought is answered before the next read waits, and the answers go
 // out in blocks. No contract can say what is read or written; what is answered to what is `lent::session`'s.
+#![tactic(auto)]
 
 ghost use Rattle.std.specs.Prelude.{◌≤◌, length};
 
@@ -13,7 +14,7 @@ const PIECE_OCTETS: usize = 16384;
 const ANSWERS_OCTETS: usize = PIECE_OCTETS * lines::ANSWER_ROOM;
 
 // What one read came to, and the session after it.
-#[derive(Drop)]
+#[derive(Clone, Copy)]
 struct Turn {
     ended: bool,
     failed: bool,

@@ -1,5 +1,6 @@
 // echoline: each line of standard input, read and written back, for tests. What reads as an event is written as that event's line, what reads as
 // an answer as that answer's line, and of any other line the refusal is printed that it has as an event line.
+#![tactic(auto)]
 
 use events::{Answer, Event};
 use libc::{STDIN_FILENO, STDOUT_FILENO};

@@ -1,5 +1,6 @@
 // What C calls: the line at the image, with its answer written as a line; and a query on a line alone. What the first leaves in each buffer is
 // defined in specs/, from document 01's "Lines, image, status"; the query is that of `lines`.
+#![tactic(auto)]
 
 ghost use Rattle.std.specs.Prelude.{◌≡◌};
 ghost use Rattle.lines.specs.EventLine.{bad_field};

@@ -1,6 +1,7 @@
 // Events and answers, and what an event does at one place. The kind names a rule (`rule`), the rule says what is looked for in the table
 // (`sought`). At the record of the place that is found something happens (`turn`), and the event is answered (`answers`). What each
 // of these is to do is defined in specs/, from document 01's "Events" and "Refusal numbers". Nothing here knows of a whole table.
+#![tactic(auto)]
 
 pub mod answers;
 pub mod message;
@@ -18,7 +19,7 @@ use table::{Call, Connection, Invoke, Place, Record, Side};
 use turn::Outcome;
 
 // An event. Fields that its kind does not name are ignored.
-#[derive(Drop)]
+#[derive(Clone, Copy)]
 pub struct Event {
     pub kind: u8,
     pub call: Call,
@@ -30,7 +31,7 @@ pub struct Event {
 }
 
 // The fourteen fields of an answer line, of which each message fills four. The first message is sent before the second.
-#[derive(Drop)]
+#[derive(Clone, Copy)]
 pub struct Answer {
     pub number: u8,
     pub call: Call,
@@ -43,7 +44,7 @@ pub struct Answer {
 }
 
 // What an event leaves at its place, and its answer.
-#[derive(Drop)]
+#[derive(Clone, Copy)]
 pub struct Acted {
     pub after: Record,
     pub answer: Answer,

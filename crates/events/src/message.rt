@@ -6,13 +6,13 @@ ghost use Rattle.events.specs.Message.{error_number, fields, sent};
 
 use table::{Connection, Invoke};
 
-#[derive(Drop)]
+#[derive(Clone, Copy)]
 pub enum ErrorValue {
     Undefined,
     CallAlreadyPickedUp,
 }
 
-#[derive(Drop)]
+#[derive(Clone, Copy)]
 pub enum Message {
     NoMessage,
     // PROGRESS with cpSetup Return Result
@@ -32,7 +32,7 @@ pub enum Message {
 }
 
 // A message as the four fields of an answer that it fills; all are zero where there is none.
-#[derive(Drop)]
+#[derive(Clone, Copy)]
 pub struct Sent {
     pub message: u8,
     pub connection: Connection,

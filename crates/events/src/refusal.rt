@@ -7,7 +7,7 @@ use crate::message::{ErrorValue, Message};
 use crate::rule::{Rule, Signal};
 use table::{Connection, Side};
 
-#[derive(Drop)]
+#[derive(Clone, Copy)]
 pub enum Refusal {
     UnknownKind,
     ChoiceOrTimer,

@@ -5,7 +5,7 @@ ghost use Rattle.events.specs.Rule.{rule_of};
 
 use table::Side;
 
-#[derive(Drop)]
+#[derive(Clone, Copy)]
 pub enum Rule {
     // A call comes to a side: a park or an alert.
     Start(Side),
@@ -14,7 +14,7 @@ pub enum Rule {
     Unknown,
 }
 
-#[derive(Drop)]
+#[derive(Clone, Copy)]
 pub enum Signal {
     LocalPickup,
     PickRequest,

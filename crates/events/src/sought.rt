@@ -8,7 +8,7 @@ use crate::rule::{Rule, Signal};
 use crate::{Event, rule};
 use table::Side;
 
-#[derive(Drop)]
+#[derive(Clone, Copy)]
 pub enum Sought {
     // The place that holds the event's call.
     Held,

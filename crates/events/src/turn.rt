@@ -11,7 +11,7 @@ use crate::rule::{Rule, Signal};
 use table::{Call, Connection, Invoke, Record, Side, State, timers};
 
 // How far the pickup of a held call is.
-#[derive(Drop)]
+#[derive(Clone, Copy)]
 pub enum Stage {
     // State 1 or 2.
     Waits,
@@ -23,7 +23,7 @@ pub enum Stage {
     Taken,
 }
 
-#[derive(Drop)]
+#[derive(Clone, Copy)]
 pub enum Outcome {
     Refused(Refusal),
     // The stay ends. The first message is sent before the second.

@@ -6,7 +6,7 @@ ghost use Rattle.fields.specs.Calls.{nibble_of, bad_call, call_of, digit_of, hex
 
 use table::{Call, Table};
 
-#[derive(Drop)]
+#[derive(Clone, Copy)]
 pub struct ReadCall {
     pub good: bool,
     pub call: Call,

@@ -1,6 +1,7 @@
 // Lines of fields parted by tabs, read and written by their description: for each field the greatest number that may stand there, or that it is
 // the call. The reader hands on each field as the part of the line that it is (`parts`) to the reader of numbers (`numbers`) or of calls
 // (`calls`). What a line says, and how it is written, is defined in specs/, from document 01's "Lines, image, status" and refusals 21 to 24.
+#![tactic(auto)]
 
 pub mod calls;
 pub mod numbers;
@@ -25,7 +26,7 @@ pub const MOST_FIELDS: usize = 14;
 pub type Values = [u16; MOST_FIELDS];
 
 // Why a line does not say what its description asks for, if it does not.
-#[derive(Drop)]
+#[derive(Clone, Copy)]
 pub enum Fault {
     NoFault,
     TooLong,
@@ -60,7 +61,7 @@ impl Fault {
 }
 
 // What a line says, or its fault and zeros.
-#[derive(Drop)]
+#[derive(Clone, Copy)]
 pub struct Fields {
     pub fault: Fault,
     pub values: Values,

@@ -1,5 +1,6 @@
 // The table image: for each place its record and its rank. What stands where is defined in specs/, from document 01's "Image" and document 02's Q-4,
 // and the laws are in proofs/. There is no code here: what reads, writes, tests and changes an image is the crate `lent`.
+#![tactic(auto)]
 
 pub mod ranks;
 
@@ -18,7 +19,7 @@ pub const PLACE_OCTETS: usize = RECORD_OCTETS + 1;
 pub const IMAGE_OCTETS: usize = Table::PLACES * PLACE_OCTETS;
 
 // What reading an image gives: number 0 and its table, or 25 and the empty table.
-#[derive(Drop)]
+#[derive(Clone, Copy)]
 pub struct ReadImage {
     pub number: u8,
     pub table: Table,

@@ -1,5 +1,5 @@
 // How many calls either side has.
-#[derive(Drop)]
+#[derive(Clone, Copy)]
 pub struct Calls {
     pub positions: u8,
     pub lines: u8,

@@ -8,6 +8,7 @@
 //
 // Any other line is an event line. Printed is the answer's line and, where the members are asked, `on` or `off`, the call, the place, the number, and
 // the timers that stop and that start, a digit for each member. Where the rest of a line does not read, it is the event of all zeros.
+#![tactic(auto)]
 
 ghost use Rattle.std.specs.Prelude.{◌+◌, ◌≤◌, ◌<◌, length};
 

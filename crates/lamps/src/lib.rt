@@ -1,6 +1,7 @@
 // Lamps for the pickup group: the served endpoint of H.450.5, 7.6, for eight members, beside the call table (document 02, Q-5). An event goes to
 // the table as it would without lamps, and what the table answers says what is sent to the members (`notice`). What a member
 // answers, or that it does not, is a reply (`reply`), which never reaches the table. What is kept is in `members`.
+#![tactic(auto)]
 
 pub mod members;
 pub mod notice;
@@ -15,14 +16,14 @@ use notice::Notice;
 use table::Table;
 
 // The served endpoint: the calls that it holds, and the lamps of the members.
-#[derive(Drop)]
+#[derive(Clone, Copy)]
 pub struct Endpoint {
     pub table: Table,
     pub lamps: Lamps,
 }
 
 // What an event came to: the endpoint after it, the table's answer, and what is sent to the members.
-#[derive(Drop)]
+#[derive(Clone, Copy)]
 pub struct Told {
     pub endpoint: Endpoint,
     pub answer: Answer,

@@ -7,14 +7,14 @@ ghost use Rattle.lamps.specs.Members.{same_indication, awaits, timer_in, is_one_
 use table::{Call, Invoke, Place, Table};
 
 // groupIndicationOn or groupIndicationOff.
-#[derive(Drop)]
+#[derive(Clone, Copy)]
 pub enum Indication {
     On,
     Off,
 }
 
 // The states of clause 10.3.6, of a place and a member.
-#[derive(Drop)]
+#[derive(Clone, Copy)]
 pub enum Gp {
     Idle,
     NotifyOnRequ,
@@ -22,7 +22,7 @@ pub enum Gp {
 }
 
 // One place: the request that was last sent to each member, and which of them have still to reply to it.
-#[derive(Drop)]
+#[derive(Clone, Copy)]
 pub struct Lamp {
     pub indication: Indication,
     pub call: Call,
@@ -30,7 +30,7 @@ pub struct Lamp {
     pub pending: [bool; Lamps::MEMBERS],
 }
 
-#[derive(Drop)]
+#[derive(Clone, Copy)]
 pub struct Lamps {
     pub places: [Lamp; Table::PLACES],
     // the number that the last request carried

@@ -14,7 +14,7 @@ const FREE: u8 = 0;
 const HANDED_OVER: u8 = 5;
 
 // What each of the eight members is asked.
-#[derive(Drop)]
+#[derive(Clone, Copy)]
 pub enum Asks {
     NoOne,
     Each(Indication),
@@ -22,7 +22,7 @@ pub enum Asks {
 
 // What goes out to the members: one request, the same to each, and the timers that stop and start, of members 1 to 8 (0 none, 4 T4, 5 T5).
 // Zeros everywhere where no one is asked.
-#[derive(Drop)]
+#[derive(Clone, Copy)]
 pub struct Notice {
     pub asks: Asks,
     pub call: Call,
@@ -32,7 +32,7 @@ pub struct Notice {
     pub started: [u8; Lamps::MEMBERS],
 }
 
-#[derive(Drop)]
+#[derive(Clone, Copy)]
 pub struct Lit {
     pub lamps: Lamps,
     pub notice: Notice,

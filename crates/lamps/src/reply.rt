@@ -8,7 +8,7 @@ ghost use Rattle.lamps.specs.Reply.{same_request, is_pending, find_pending, refu
 use crate::members::{Indication, Lamp, Lamps, is_one_to};
 use table::{Call, Found, Invoke, Place, Table, search};
 
-#[derive(Drop)]
+#[derive(Clone, Copy)]
 pub struct Reply {
     pub call: Call,
     pub member: u8,
@@ -18,7 +18,7 @@ pub struct Reply {
 
 // What a reply came to. Accepted: number 0, the place whose request it settles, the timer that stops there for the member. Refused: 31 or 32, zeros,
 // and the lamps as they were.
-#[derive(Drop)]
+#[derive(Clone, Copy)]
 pub struct Settlement {
     pub number: u8,
     pub place: Place,

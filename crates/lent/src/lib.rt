@@ -3,6 +3,7 @@
 // machine's own definition. A table by value is stepped, tested and written in the same way, at its image in an array of its own.
 //
 // Whatever acts on an image without a test of it asks something of it and is the crate's own. A public function tests first.
+#![tactic(auto)]
 
 mod aim;
 mod marks;

@@ -14,7 +14,7 @@ use crate::sound;
 use events::{Answer, answers};
 use image::IMAGE_OCTETS;
 
-#[derive(Drop)]
+#[derive(Clone, Copy)]
 pub struct Session {
     // the table
     pub image: [u8; IMAGE_OCTETS],
@@ -24,7 +24,7 @@ pub struct Session {
 }
 
 // What comes of a piece: whether there was room for its answers, the session after it, and how many octets were written.
-#[derive(Drop)]
+#[derive(Clone, Copy)]
 pub struct Fed {
     pub enough: bool,
     pub session: Session,
@@ -32,7 +32,7 @@ pub struct Fed {
 }
 
 // How much of a line is kept, and where it ends.
-#[derive(Drop)]
+#[derive(Clone, Copy)]
 struct Kept {
     len: usize,
     end: usize,

@@ -1,6 +1,7 @@
 // Event lines and answer lines as octets. Each is a line of fields by its description (`fields`), and an event or an answer is laid out in the
 // values of its fields and taken from them. What a line means is defined in specs/, from document 01's "Lines, image, status" and refusals
 // 21 to 24.
+#![tactic(auto)]
 
 ghost use Rattle.std.specs.Prelude.{◌≡◌, cond, ltb, length};
 ghost use Rattle.std.proofs.lemmas.List.Edits.{sets};
@@ -43,14 +44,14 @@ const LONGEST_ANSWER: u8 = 92;
 pub const ANSWER_ROOM: usize = 77;
 
 // What reading an event line gives: number 0 and the event, or the refusal and the event of all zeros.
-#[derive(Drop)]
+#[derive(Clone, Copy)]
 pub struct ReadEvent {
     pub number: u8,
     pub event: Event,
 }
 
 // What reading an answer line gives: the answer, or that the line is not the fourteen fields, and the answer of all zeros.
-#[derive(Drop)]
+#[derive(Clone, Copy)]
 pub struct ReadAnswer {
     pub good: bool,
     pub answer: Answer,

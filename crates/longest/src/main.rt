@@ -1,6 +1,7 @@
 // longest: the events of `longest_run` (room/specs/Room.antt) as lines, from the image of the empty table. They reach the longest line that an
 // answer has. Of each answer this prints the length that is offered before the line is written, the count that the writer gives back, and
 // the line, for which it sets aside no octet more than was offered.
+#![tactic(auto)]
 
 use events::Answer;
 use libc::STDOUT_FILENO;

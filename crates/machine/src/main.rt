@@ -1,6 +1,7 @@
 // machine: the whole machine of a place, printed as a table parted by tabs with one header line. For each side, each state of that side
 // and each event there is a row with what the step does. No rule stands here: a row is what `single_step` makes of a table that has one
 // call, at the place (none in state 0), and of an event that names that call.
+#![tactic(auto)]
 
 ghost use Rattle.std.specs.Prelude.{◌<◌};
 ghost use Rattle.table.specs.Places.{place_count};
@@ -19,7 +20,7 @@ const COUNT: u16 = 7;
 const NO_TIMER: u8 = 0;
 
 // Whether the event replies to the pickup Invoke, and by its number or by a wrong one.
-#[derive(Drop)]
+#[derive(Clone, Copy)]
 enum Reply {
     Right,
     Wrong,

@@ -10,6 +10,7 @@
 // and by 33. Printed are the number, the state, both messages, what the user is told, and the timers that start and that stop. The line `?` prints
 // the tables of both machines instead, what each answers to every event in every state, with the error value 777; and after them the wire's value of
 // the table's error numbers.
+#![tactic(auto)]
 
 ghost use Rattle.std.specs.Prelude.{◌≤◌, length};
 
@@ -35,14 +36,14 @@ const LONGEST: u8 = 17;
 // The error value of the tables.
 const SAMPLE: u16 = 777;
 
-#[derive(Drop)]
+#[derive(Clone, Copy)]
 struct Phones {
     parking: parking::State,
     parked: parked::State,
 }
 
 // The fields of a line after the machine.
-#[derive(Drop)]
+#[derive(Clone, Copy)]
 struct LineFields {
     event: u16,
     accepted: u16,
@@ -50,13 +51,13 @@ struct LineFields {
 }
 
 // The event that they name, if the parking endpoint has one of that number.
-#[derive(Drop)]
+#[derive(Clone, Copy)]
 enum ParkingEvent {
     NoEvent,
     Is(parking::Event),
 }
 
-#[derive(Drop)]
+#[derive(Clone, Copy)]
 enum ParkedEvent {
     NoEvent,
     Is(parked::Event),

@@ -1,6 +1,7 @@
 // The desk phone's half of parking, as it runs: the parking endpoint (`parking`, clause 7.1 of H.450.5) and the parked endpoint (`parked`, clause
 // 7.2), each a machine of one call that takes one event at a time. Their clause tables are in `clauses`; here are the sorts of answer that the tables
 // are written with.
+#![tactic(auto)]
 
 pub mod parked;
 pub mod parking;

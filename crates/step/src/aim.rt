@@ -2,7 +2,7 @@
 
 use events::refusal::Refusal;
 
-#[derive(Drop)]
+#[derive(Clone, Copy)]
 pub enum Aim {
     // An index of the table.
     To(usize),

@@ -1,12 +1,13 @@
 // One event at the table: the answer, and the table after it. What a step is is defined in specs/, from document 01's "Events" and "Refusal
 // numbers", and its promises are proved in proofs/. There is no code here: the step is taken at an image (crate `lent`).
+#![tactic(auto)]
 
 pub mod aim;
 
 use events::Answer;
 use table::Table;
 
-#[derive(Drop)]
+#[derive(Clone, Copy)]
 pub struct Step {
     pub table: Table,
     pub answer: Answer,

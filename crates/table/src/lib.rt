@@ -3,6 +3,7 @@
 // 02's Q-4. What runs looks at a table as its image (crate `lent`).
 //
 // Places are counted from 1 and are a type of their own; an index into the array is counted from 0.
+#![tactic(auto)]
 
 pub mod search;
 pub mod status;
@@ -12,21 +13,21 @@ ghost use Rattle.std.specs.Prelude.{◌≡◌};
 ghost use Rattle.table.specs.Places.{state_number, same_state, is_free, state_of, side_index, same_side, waiting_on, missing_on, side_of, is_of, place_at, side_at, first_index, end_index, free_record, empty_table};
 
 // The number of a place: 1 to 96. Others are numbers of no place.
-#[derive(Drop)]
+#[derive(Clone, Copy)]
 pub struct Place(pub u16);
 
 // The CallIdentifier, any value.
 pub type Call = [u8; Table::CALL_OCTETS];
 
 // The picker's connection.
-#[derive(Drop)]
+#[derive(Clone, Copy)]
 pub struct Connection(pub u16);
 
 // The number that a pickup Invoke carries.
-#[derive(Drop)]
+#[derive(Clone, Copy)]
 pub struct Invoke(pub u16);
 
-#[derive(Drop)]
+#[derive(Clone, Copy)]
 pub enum State {
     Free,
     ParkWaiting,
@@ -37,27 +38,27 @@ pub enum State {
 }
 
 // The park positions, or the alerting lines.
-#[derive(Drop)]
+#[derive(Clone, Copy)]
 pub enum Side {
     Position,
     Line,
 }
 
 // The side of a place number, if it is one of the table's.
-#[derive(Drop)]
+#[derive(Clone, Copy)]
 pub enum Sided {
     Of(Side),
     Outside,
 }
 
 // The index that a search finds.
-#[derive(Drop)]
+#[derive(Clone, Copy)]
 pub enum Found {
     At(usize),
     Nothing,
 }
 
-#[derive(Drop)]
+#[derive(Clone, Copy)]
 pub struct Record {
     pub state: State,
     pub call: Call,
@@ -67,7 +68,7 @@ pub struct Record {
 
 // A rank stands beside its record, not in it: it says where a call stands among the others of its side, and what an event does at one place
 // depends on no other.
-#[derive(Drop)]
+#[derive(Clone, Copy)]
 pub struct Table {
     pub places: [Record; Table::PLACES],
     // 0 of a free place

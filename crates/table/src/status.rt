@@ -1,7 +1,7 @@
 // The status query: free positions and lines, waiting calls, running timers. What it gives of a table is defined in specs/Status.antt.
 
 // What a status query gives; `number` is 0, or the refusal.
-#[derive(Drop)]
+#[derive(Clone, Copy)]
 pub struct Status {
     pub number: u8,
     // free ones
