@@ -43,7 +43,9 @@ module _ (most values call : List ℕ) (i : ℕ) where
 
   line_step : i + 1 < length most → line_from (drop i most) i values call ≡ joined here next
   unfolding line_from
-  line_step h = rw (at_step most i (omega arith), at_step most (i + 1) h, add-one i)
+  line_step h =
+      rw (at_step most i (omega arith), at_step most (i + 1) h)
+      (ap (λ (n : ℕ). joined here (line_from (get_or most (i + 1) 0 ∷ drop (i + 1 + 1) most) n values call)) (sym (add-one i)))
 
   pub line_last : (last : ℕ) → last ≡ i → i + 1 ≡ length most
       → line_from (drop i most) i values call ≡ text (get_or most last 0) (get_or values last 0) call
