@@ -15,7 +15,7 @@ use Rattle.stays.proofs.Part.{Part, Whole, embed, embed_whole, getD-free, replay
 
 module _ (m : Machine) (l : Laws m) where
   open m use {Table, Event, Answer, empty}
-  open l use {Core, Call, size, free, Holds, free_holds, Shows, shows_empty, shows_size, shows_one, Shows-same}
+  open l use {Core, Call, size, free, Holds, free_holds, Shows, shows_empty, shows_size, shows_one, shows_same}
 
   -- The events lead from the free place to the record there.
   pub record Stands (cs : List Core) (p : ℕ) (xs : List (Done Event Answer)) : Type 0 where
@@ -92,7 +92,7 @@ module _ (m : Machine) (l : Laws m) where
   replayed {t} {s} v =
       let a = build_ended s.ended v.wholes shows_empty in
       let b = build v.shows s.running v.opens v.distinct a.2 (λ j. first j (dec_in j (places_of s.running))) in
-      let same : b.0 ≡ t = Shows-same b.2 v.shows in
+      let same : b.0 ≡ t = shows_same b.2 v.shows in
       rw same at (replays_append m a.1 b.1)
     where
       first : (j : ℕ) → Dec (In j (places_of s.running)) → Due (replicate size free) v.cores (places_of s.running) j

@@ -120,12 +120,14 @@ module _ (same : ℕ → ℕ → Bool) where
   -- ---- who came first
 
   pub before_in : (i j : ℕ) (o : List ℕ) → Before i j o → In j o
+  before_in i j [] x = elim x [ ]
   before_in i j (q ∷ qs) (first e h) = inr h
   before_in i j (q ∷ qs) (later b) = inr (before_in i j qs b)
 
   -- of two places of one side the one that began first has the lower rank
   pub rank_before : (i j : ℕ) → same j i ≡ true → ((q : ℕ) → same i q ≡ same j q) → (n : ℕ) (o : List ℕ) → Distinct o → Before i j o
       → rank same n o i < rank same n o j
+  rank_before i j h alike n [] d x = elim x [ ]
   rank_before i j h alike n (q ∷ qs) d (first e there) =
       let other : j ≢ q = λ f. d.0 (rw f at there) in
       let one : n + one_if (same j q) ≡ n + 1 = rw (← e, h) in
