@@ -4,7 +4,7 @@ use Rattle.laws.specs.Lists.{below}
 use Rattle.table.specs.Places.{place_count}
 use Rattle.table.specs.Marks.{Entering}
 use Rattle.image.specs.Image.{table_from}
-use Rattle.image.specs.Quick.{place_fits}
+use Rattle.image.specs.Quick.{place_fits, Entered}
 use Rattle.lent.proofs.sound.places_sound.Given as goal
 
 abbrev pub invariant-loop-i : goal.invariant-loop-i

@@ -1,0 +1,7 @@
+-- A run of octets is its two halves, which the callee gives.
+use Rattle.std.proofs.Common.{arith, rules}
+use Rattle.image.proofs.WordLaws.{run_double}
+use Rattle.lent.proofs.words.word.Goals as goal
+
+pub returns : goal.returns
+returns c = omega (arith, run_double 4 c.args.image.now c.args.at (search rules))
