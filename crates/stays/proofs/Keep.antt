@@ -162,8 +162,8 @@ module _ (m : Machine) (l : Laws m) where
       by ends q sh = inv_ends v a.1 q sh
 
   inv_run : {t : Table} {s : Stays (Done Event Answer)} → Inv m l t s → (es : List Event) → Inv m l (final m t es) (stays m s (run m t es))
-  inv_run v [] = v
-  inv_run {t} {s} v (e ∷ es) = by (accepted (answer t e)) refl (λ s' w. inv_run w es)
+  inv_run {t = t} {s = s} v [] = v
+  inv_run {t = t} {s = s} v (e ∷ es) = by (accepted (answer t e)) refl (λ s' w. inv_run {t = next t e} {s = s'} w es)
     where
       by : (b : Bool) → accepted (answer t e) ≡ b → ((s' : Stays (Done Event Answer)) → Inv m l (next t e) s' → Inv m l (final m (next t e) es) (stays m s' (run m (next t e) es)))
           → Inv m l (final m (next t e) es) (stays m s (keep b (done m t e) (run m (next t e) es)))
@@ -172,8 +172,8 @@ module _ (m : Machine) (l : Laws m) where
 
   -- along a run, each accepted event may come where it comes
   follows_run : {t : Table} {s : Stays (Done Event Answer)} → Inv m l t s → (es : List Event) → Follows mark place (places_of s.running) (run m t es)
-  follows_run v [] = tt
-  follows_run {t} {s} v (e ∷ es) = by (accepted (answer t e)) refl (λ s' w. follows_run w es)
+  follows_run {t = t} {s = s} v [] = tt
+  follows_run {t = t} {s = s} v (e ∷ es) = by (accepted (answer t e)) refl (λ s' w. follows_run {t = next t e} {s = s'} w es)
     where
       x : Done Event Answer
       x = done m t e
