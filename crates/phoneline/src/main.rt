@@ -12,13 +12,14 @@
 // the table's error numbers.
 #![tactic(auto)]
 
-ghost use Rattle.std.specs.Prelude.{◌≤◌, length};
+ghost use Rattle.std.specs.Prelude.{◌≤◌, length, IfOk};
 
 use clauses::{
     Answer, Decision, ErrorValue, Failure, Message, Report, Timer, WireError, parked, parking,
 };
 use fields::{Fault, Values};
-use libc::{STDIN_FILENO, STDOUT_FILENO};
+use std::io;
+use std::io::Read;
 
 // What is read of standard input: all that is beyond is left.
 const INPUT_OCTETS: usize = 1048576;
@@ -136,18 +137,20 @@ fn put_octet(out: &mut Line, at: usize, octet: u8) -> usize {
 
 fn put(out: &mut Line, at: usize, text: &[u8]) -> usize {
     let mut p = at;
-    let mut i = 0;
-    while i < text.len() {
-        p = put_octet(out, p, text[i]);
-        i += 1;
+    for octet in text {
+        p = put_octet(out, p, *octet);
     }
     p
 }
 
+// In decimal, without leading zeros: the last digit stands after those of a tenth of the number.
 fn put_number(out: &mut Line, at: usize, n: u64) -> usize {
-    let mut digits = [0u8; 20];
-    let count = io::decimal(n, &mut digits);
-    put(out, at, &digits[..count])
+    let p = if n < 10 {
+        at
+    } else {
+        put_number(out, at, n / 10)
+    };
+    put_octet(out, p, b'0' + (n % 10) as u8)
 }
 
 fn put_with(out: &mut Line, at: usize, text: &[u8], value: ErrorValue) -> usize {
@@ -238,60 +241,69 @@ fn put_parked_step(out: &mut Line, at: usize, step: parked::Step) -> usize {
 }
 
 // Writes the octets before an index.
-fn print(out: &Line, at: usize) {
+fn print(rt: &impl Print, out: &Line, at: usize) -> io::Result<()> {
     let all: &[u8] = out;
     if at <= all.len() {
-        io::write_all(STDOUT_FILENO, &all[..at]);
+        rt.write_all(&all[..at])?;
     }
+    Ok(())
 }
 
 // A line that reaches no phone.
-fn print_refused(number: u8) {
+fn print_refused(rt: &impl Print, number: u8) -> io::Result<()> {
     let mut out = [0u8; LINE_OCTETS];
     let p = put_number(&mut out, 0, number as u64);
     let p = put(&mut out, p, b"\t-\t-\t-\t-\t-\t-\n");
-    print(&out, p);
+    print(rt, &out, p)
 }
 
-fn take_parking(state: parking::State, said: LineFields) -> parking::State {
+fn take_parking(
+    rt: &impl Print,
+    state: parking::State,
+    said: LineFields,
+) -> io::Result<parking::State> {
     let ParkingEvent::Is(event) = parking_event(said) else {
-        print_refused(1);
-        return state;
+        print_refused(rt, 1)?;
+        return Ok(state);
     };
     if is_parking_request(said.event) {
         if 1 < said.accepted {
-            print_refused(2);
-            return state;
+            print_refused(rt, 2)?;
+            return Ok(state);
         }
     }
     let step = phones::parking::step_at(state, event);
     let after = step.state;
     let mut out = [0u8; LINE_OCTETS];
     let p = put_parking_step(&mut out, 0, step);
-    print(&out, p);
-    after
+    print(rt, &out, p)?;
+    Ok(after)
 }
 
-fn take_parked(state: parked::State, said: LineFields) -> parked::State {
+fn take_parked(
+    rt: &impl Print,
+    state: parked::State,
+    said: LineFields,
+) -> io::Result<parked::State> {
     let ParkedEvent::Is(event) = parked_event(said) else {
-        print_refused(1);
-        return state;
+        print_refused(rt, 1)?;
+        return Ok(state);
     };
     if is_parked_request(said.event) {
         if 1 < said.accepted {
-            print_refused(2);
-            return state;
+            print_refused(rt, 2)?;
+            return Ok(state);
         }
     }
     let step = phones::parked::step_at(state, event);
     let after = step.state;
     let mut out = [0u8; LINE_OCTETS];
     let p = put_parked_step(&mut out, 0, step);
-    print(&out, p);
-    after
+    print(rt, &out, p)?;
+    Ok(after)
 }
 
-fn take_values(phones: Phones, values: Values) -> Phones {
+fn take_values(rt: &impl Print, phones: Phones, values: Values) -> io::Result<Phones> {
     let parking = phones.parking;
     let parked = phones.parked;
     let said = LineFields {
@@ -300,17 +312,17 @@ fn take_values(phones: Phones, values: Values) -> Phones {
         value: ErrorValue(values[3]),
     };
     match values[0] {
-        1 => Phones {
-            parking: take_parking(parking, said),
-            parked,
-        },
-        2 => Phones {
-            parking,
-            parked: take_parked(parked, said),
-        },
+        1 => {
+            let parking = take_parking(rt, parking, said)?;
+            Ok(Phones { parking, parked })
+        }
+        2 => {
+            let parked = take_parked(rt, parked, said)?;
+            Ok(Phones { parking, parked })
+        }
         _ => {
-            print_refused(1);
-            phones
+            print_refused(rt, 1)?;
+            Ok(phones)
         }
     }
 }
@@ -336,61 +348,75 @@ fn sample_fields(event: u16, accepted: u16) -> LineFields {
     }
 }
 
-fn print_parking_row(state: parking::State, event: u16, accepted: u16) {
+fn print_parking_row(
+    rt: &impl Print,
+    state: parking::State,
+    event: u16,
+    accepted: u16,
+) -> io::Result<()> {
     let said = sample_fields(event, accepted);
     let ParkingEvent::Is(e) = parking_event(said) else {
-        return;
+        return Ok(());
     };
     let mut out = [0u8; LINE_OCTETS];
     let p = put(&mut out, 0, b"parking");
     let p = put_parking_state(&mut out, p, state);
     let p = put_asked(&mut out, p, said, is_parking_request(event));
     let p = put_parking_step(&mut out, p, phones::parking::step_at(state, e));
-    print(&out, p);
+    print(rt, &out, p)
 }
 
-fn print_parked_row(state: parked::State, event: u16, accepted: u16) {
+fn print_parked_row(
+    rt: &impl Print,
+    state: parked::State,
+    event: u16,
+    accepted: u16,
+) -> io::Result<()> {
     let said = sample_fields(event, accepted);
     let ParkedEvent::Is(e) = parked_event(said) else {
-        return;
+        return Ok(());
     };
     let mut out = [0u8; LINE_OCTETS];
     let p = put(&mut out, 0, b"parked");
     let p = put_parked_state(&mut out, p, state);
     let p = put_asked(&mut out, p, said, is_parked_request(event));
     let p = put_parked_step(&mut out, p, phones::parked::step_at(state, e));
-    print(&out, p);
+    print(rt, &out, p)
 }
 
 // The rows of an event: a request has two.
-fn print_parking_event(state: parking::State, event: u16) {
-    print_parking_row(state, event, 1);
+fn print_parking_event(rt: &impl Print, state: parking::State, event: u16) -> io::Result<()> {
+    print_parking_row(rt, state, event, 1)?;
     if is_parking_request(event) {
-        print_parking_row(state, event, 0);
+        print_parking_row(rt, state, event, 0)?;
     }
+    Ok(())
 }
 
-fn print_parked_event(state: parked::State, event: u16) {
-    print_parked_row(state, event, 1);
+fn print_parked_event(rt: &impl Print, state: parked::State, event: u16) -> io::Result<()> {
+    print_parked_row(rt, state, event, 1)?;
     if is_parked_request(event) {
-        print_parked_row(state, event, 0);
+        print_parked_row(rt, state, event, 0)?;
     }
+    Ok(())
 }
 
-fn print_parking_state(state: parking::State) {
+fn print_parking_state(rt: &impl Print, state: parking::State) -> io::Result<()> {
     for event in 1..=6 {
-        print_parking_event(state, event);
+        print_parking_event(rt, state, event)?;
     }
+    Ok(())
 }
 
-fn print_parked_state(state: parked::State) {
+fn print_parked_state(rt: &impl Print, state: parked::State) -> io::Result<()> {
     for event in 1..=17 {
-        print_parked_event(state, event);
+        print_parked_event(rt, state, event)?;
     }
+    Ok(())
 }
 
 // The wire's value of an error number of the table's answers.
-fn print_wire_error(number: u8) {
+fn print_wire_error(rt: &impl Print, number: u8) -> io::Result<()> {
     let mut out = [0u8; LINE_OCTETS];
     let p = put(&mut out, 0, b"error\t");
     let p = put_number(&mut out, p, number as u64);
@@ -399,23 +425,22 @@ fn print_wire_error(number: u8) {
         WireError::Is(x) => put_with(&mut out, p, b"\t", x),
     };
     let p = put_octet(&mut out, p, b'\n');
-    print(&out, p);
+    print(rt, &out, p)
 }
 
-fn print_tables() {
-    io::write_all(
-        STDOUT_FILENO,
+fn print_tables(rt: &impl Print) -> io::Result<()> {
+    rt.write_all(
         b"machine\tstate\tevent\taccepted\tnumber\tstate after\tmessage\tsecond message\ttold\tstarted\tstopped\n",
-    );
-    print_parking_state(parking::State::CpIdle);
-    print_parking_state(parking::State::CpRequested);
-    print_parked_state(parked::State::CpIdle);
-    print_parked_state(parked::State::CpSetupRequ);
-    print_parked_state(parked::State::CpickupSetupInit);
-    print_wire_error(0);
-    print_wire_error(1);
-    print_wire_error(2);
-    print_wire_error(3);
+    )?;
+    print_parking_state(rt, parking::State::CpIdle)?;
+    print_parking_state(rt, parking::State::CpRequested)?;
+    print_parked_state(rt, parked::State::CpIdle)?;
+    print_parked_state(rt, parked::State::CpSetupRequ)?;
+    print_parked_state(rt, parked::State::CpickupSetupInit)?;
+    print_wire_error(rt, 0)?;
+    print_wire_error(rt, 1)?;
+    print_wire_error(rt, 2)?;
+    print_wire_error(rt, 3)
 }
 
 fn is_question(line: &[u8]) -> bool {
@@ -426,27 +451,27 @@ fn is_question(line: &[u8]) -> bool {
     }
 }
 
-fn take_line(phones: Phones, line: &[u8]) -> Phones {
+fn take_line(rt: &impl Print, phones: Phones, line: &[u8]) -> io::Result<Phones> {
     if is_question(line) {
-        print_tables();
-        return phones;
+        print_tables(rt)?;
+        return Ok(phones);
     }
     let read = fields::read_fields(line, LONGEST, &FIELDS);
     let fault = read.fault;
     let values = read.values;
     match fault {
-        Fault::NoFault => take_values(phones, values),
+        Fault::NoFault => take_values(rt, phones, values),
         Fault::TooLong => {
-            print_refused(21);
-            phones
+            print_refused(rt, 21)?;
+            Ok(phones)
         }
         Fault::WrongCount => {
-            print_refused(22);
-            phones
+            print_refused(rt, 22)?;
+            Ok(phones)
         }
         Fault::BadField(_) => {
-            print_refused(23);
-            phones
+            print_refused(rt, 23)?;
+            Ok(phones)
         }
     }
 }
@@ -466,7 +491,7 @@ fn find_feed(text: &[u8], from: usize) -> usize
     end
 }
 
-fn take_all(text: &[u8]) {
+fn take_all(rt: &impl Print, text: &[u8]) -> io::Result<()> {
     let mut phones = Phones {
         parking: parking::State::CpIdle,
         parked: parked::State::CpIdle,
@@ -474,17 +499,37 @@ fn take_all(text: &[u8]) {
     let mut from: usize = 0;
     while from < text.len() {
         let end = find_feed(text, from);
-        phones = take_line(phones, &text[from..end]);
+        phones = take_line(rt, phones, &text[from..end])?;
         from = end + 1;
     }
+    Ok(())
 }
 
-fn take_input(room: &mut [u8]) {
-    let n = io::read_full(STDIN_FILENO, room);
-    take_all(&room[..n]);
+// Reads until the room is full or the input ends, and gives the count of octets that came. A proved loop has to end, and nothing says that the
+// input does: the turns are numbers of which no run uses up the last.
+fn read_full(input: &mut impl Read, room: &mut [u8]) -> io::Result<usize>
+    ensures { IfOk result (λ n. n ≤ length room.new) }
+{
+    let mut done: usize = 0;
+    for _ in 0..u64::MAX {
+        if done == room.len() {
+            break;
+        }
+        let n = input.read(&mut room[done..])?;
+        if n == 0 {
+            break;
+        }
+        done += n;
+    }
+    Ok(done)
 }
 
-fn main() {
+fn take_input(rt: &(impl Input + Print), room: &mut [u8]) -> io::Result<()> {
+    let n = read_full(&mut rt.reader(), room)?;
+    take_all(rt, &room[..n])
+}
+
+fn main(rt: HostRuntime) -> io::Result<()> {
     let mut input = [0u8; INPUT_OCTETS];
-    take_input(&mut input);
+    take_input(&rt, &mut input)
 }
