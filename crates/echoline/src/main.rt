@@ -2,8 +2,11 @@
 // an answer as that answer's line, and of any other line the refusal is printed that it has as an event line.
 #![tactic(auto)]
 
+ghost use Rattle.std.specs.Prelude.{◌≤◌, length, IfOk};
+
 use events::{Answer, Event};
-use libc::{STDIN_FILENO, STDOUT_FILENO};
+use std::io;
+use std::io::Read;
 
 // The most that is read of standard input; the rest is left.
 const INPUT_OCTETS: usize = 1048576;
@@ -12,76 +15,93 @@ const INPUT_OCTETS: usize = 1048576;
 const LINE_OCTETS: usize = 128;
 
 // Writes the octets before an index.
-fn put(text: &[u8], end: usize) {
+fn put(rt: &impl Print, text: &[u8], end: usize) -> io::Result<()> {
     if end <= text.len() {
-        io::write_all(STDOUT_FILENO, &text[..end]);
+        rt.write_all(&text[..end])?;
     }
+    Ok(())
 }
 
-fn put_event(e: Event, room: &mut [u8]) {
+fn put_event(rt: &impl Print, e: Event, room: &mut [u8]) -> io::Result<()> {
     let written = lines::write_event(e, room);
-    put(room, written);
+    put(rt, room, written)
 }
 
-fn put_answer(a: Answer, room: &mut [u8]) {
+fn put_answer(rt: &impl Print, a: Answer, room: &mut [u8]) -> io::Result<()> {
     let written = lines::write_answer(a, room);
-    put(room, written);
+    put(rt, room, written)
 }
 
 // A line is written into no more room than the length that is offered for it.
-fn echo_event(e: Event) {
+fn echo_event(rt: &impl Print, e: Event) -> io::Result<()> {
     let mut out = [0u8; LINE_OCTETS];
     let offered = lines::event_length(e);
     if offered <= LINE_OCTETS {
-        put_event(e, &mut out[..offered]);
+        put_event(rt, e, &mut out[..offered])?;
     }
-    io::write_all(STDOUT_FILENO, b"\n");
+    rt.write_all(b"\n")
 }
 
-fn echo_answer(a: Answer) {
+fn echo_answer(rt: &impl Print, a: Answer) -> io::Result<()> {
     let mut out = [0u8; LINE_OCTETS];
     let offered = lines::answer_length(a);
     if offered <= LINE_OCTETS {
-        put_answer(a, &mut out[..offered]);
+        put_answer(rt, a, &mut out[..offered])?;
     }
+    Ok(())
 }
 
-fn echo(line: &[u8]) {
+fn echo(rt: &impl Print, line: &[u8]) -> io::Result<()> {
     let as_event = lines::read_event(line);
     if as_event.number == 0 {
-        echo_event(as_event.event);
-        return;
+        return echo_event(rt, as_event.event);
     }
     let as_answer = lines::read_answer(line);
     if as_answer.good {
-        echo_answer(as_answer.answer);
-        return;
+        return echo_answer(rt, as_answer.answer);
     }
-    io::print_decimal(STDOUT_FILENO, as_event.number as u64);
-    io::write_all(STDOUT_FILENO, b"\n");
+    rt.println(as_event.number)
 }
 
-fn echo_all(text: &[u8]) {
+fn echo_all(rt: &impl Print, text: &[u8]) -> io::Result<()> {
     let mut from: usize = 0;
-    let mut end: usize = 0;
-    while end < text.len() {
-        if text[end] == b'\n' {
-            echo(&text[from..end]);
+    for (end, octet) in text.iter().enumerate() {
+        if *octet == b'\n' {
+            echo(rt, &text[from..end])?;
             from = end + 1;
         }
-        end += 1;
     }
     if from < text.len() {
-        echo(&text[from..]);
+        echo(rt, &text[from..])?;
     }
+    Ok(())
 }
 
-fn echo_input(room: &mut [u8]) {
-    let n = io::read_full(STDIN_FILENO, room);
-    echo_all(&room[..n]);
+// Reads until the room is full or the input ends, and gives the count of octets that came. A proved loop has to end, and nothing says that the
+// input does: the turns are numbers of which no run uses up the last.
+fn read_full(input: &mut impl Read, room: &mut [u8]) -> io::Result<usize>
+    ensures { IfOk result (λ n. n ≤ length room.new) }
+{
+    let mut done: usize = 0;
+    for _ in 0..u64::MAX {
+        if done == room.len() {
+            break;
+        }
+        let n = input.read(&mut room[done..])?;
+        if n == 0 {
+            break;
+        }
+        done += n;
+    }
+    Ok(done)
 }
 
-fn main() {
+fn echo_input(rt: &(impl Input + Print), room: &mut [u8]) -> io::Result<()> {
+    let n = read_full(&mut rt.reader(), room)?;
+    echo_all(rt, &room[..n])
+}
+
+fn main(rt: HostRuntime) -> io::Result<()> {
     let mut input = [0u8; INPUT_OCTETS];
-    echo_input(&mut input);
+    echo_input(&rt, &mut input)
 }
