@@ -6,7 +6,8 @@ ghost use Rattle.std.specs.Prelude.{◌≤◌, length};
 
 use lent::session;
 use lent::session::Session;
-use libc::{STDIN_FILENO, STDOUT_FILENO};
+use std::io;
+use std::io::Read;
 
 // The most that is read at once, and room for the answers to it.
 const PIECE_OCTETS: usize = 16384;
@@ -17,7 +18,6 @@ const ANSWERS_OCTETS: usize = PIECE_OCTETS * lines::ANSWER_ROOM;
 #[derive(Clone, Copy)]
 struct Turn {
     ended: bool,
-    failed: bool,
     session: Session,
 }
 
@@ -30,51 +30,50 @@ fn within(n: usize, buf: &[u8]) -> usize
 
 // Reads once, and writes what is answered to it. The buffer has room for an answer for each octet of the piece, so that all
 // answers fit.
-fn answer_some(s: Session, piece: &mut [u8], out: &mut [u8]) -> Turn {
-    let got = libc::read(STDIN_FILENO, piece);
-    let n = io::count(got, piece);
+fn answer_some(
+    rt: &impl Print,
+    input: &mut impl Read,
+    s: Session,
+    piece: &mut [u8],
+    out: &mut [u8],
+) -> io::Result<Turn> {
+    let n = input.read(piece)?;
     if n == 0 {
-        return Turn {
+        return Ok(Turn {
             ended: true,
-            failed: false,
             session: s,
-        };
+        });
     }
     let fed = session::feed(s, &piece[..n], out);
     let next = fed.session;
     let count = within(fed.written, out);
-    let written = io::write_all(STDOUT_FILENO, &out[..count]);
-    Turn {
+    rt.write_all(&out[..count])?;
+    Ok(Turn {
         ended: false,
-        failed: !written,
         session: next,
-    }
+    })
 }
 
 // Answers a last line that lacks its feed.
-fn answer_last(s: Session) {
+fn answer_last(rt: &impl Print, s: Session) -> io::Result<()> {
     let mut out = [0u8; lines::ANSWER_ROOM];
     let count = within(session::finish(s, &mut out), &out);
-    io::write_all(STDOUT_FILENO, &out[..count]);
+    rt.write_all(&out[..count])
 }
 
-// Answers standard input to its end, from the empty table. A failed write ends it. A proved loop has to end, and nothing says that the
-// input does: the turns are counted down from a number that no run uses up.
-pub fn answer_all() {
+// Answers standard input to its end, from the empty table. A failed read or write ends it. A proved loop has to end, and nothing says that the
+// input does: the turns are numbers of which no run uses up the last.
+pub fn answer_all(rt: &(impl Input + Print)) -> io::Result<()> {
     let mut s = Session::start();
     let mut piece = [0u8; PIECE_OCTETS];
     let mut out = [0u8; ANSWERS_OCTETS];
-    let mut turns = u64::MAX;
-    while turns > 0 {
-        let t = answer_some(s, &mut piece, &mut out);
+    let mut input = rt.reader();
+    for _ in 0..u64::MAX {
+        let t = answer_some(rt, &mut input, s, &mut piece, &mut out)?;
         s = t.session;
-        if t.failed {
-            return;
-        }
         if t.ended {
-            answer_last(s);
-            return;
+            return answer_last(rt, s);
         }
-        turns -= 1;
     }
+    Ok(())
 }

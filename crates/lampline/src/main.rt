@@ -10,14 +10,15 @@
 // the timers that stop and that start, a digit for each member. Where the rest of a line does not read, it is the event of all zeros.
 #![tactic(auto)]
 
-ghost use Rattle.std.specs.Prelude.{◌+◌, ◌≤◌, ◌<◌, length};
+ghost use Rattle.std.specs.Prelude.{◌+◌, ◌≤◌, ◌<◌, length, IfOk};
 
 use events::{Answer, Event, answers};
 use lamps::members::{Gp, Indication, Lamps};
 use lamps::notice::{Asks, Notice};
 use lamps::reply::Reply;
 use lamps::{Endpoint, members, reply};
-use libc::{STDIN_FILENO, STDOUT_FILENO};
+use std::io;
+use std::io::Read;
 use table::Place;
 
 // What is read of standard input: all that is beyond is left.
@@ -29,47 +30,54 @@ const BLOCK_OCTETS: usize = 16384;
 type Block = [u8; BLOCK_OCTETS];
 
 // Writes the octets before an index.
-fn flush(out: &Block, at: usize) {
+fn flush(rt: &impl Print, out: &Block, at: usize) -> io::Result<()> {
     let all: &[u8] = out;
     if at <= all.len() {
-        io::write_all(STDOUT_FILENO, &all[..at]);
+        rt.write_all(&all[..at])?;
     }
+    Ok(())
 }
 
 // Where so many octets fit: at the index, or at the start once those before the index are written.
-fn room_for(out: &Block, at: usize, octets: usize) -> usize
+fn room_for(rt: &impl Print, out: &Block, at: usize, octets: usize) -> io::Result<usize>
     requires { octets ≤ 16384 }
-    ensures { result + octets ≤ 16384 }
+    ensures { IfOk result (λ p. p + octets ≤ 16384) }
 {
     if at <= BLOCK_OCTETS - octets {
-        return at;
+        return Ok(at);
     }
-    flush(out, at);
-    0
+    flush(rt, out, at)?;
+    Ok(0)
 }
 
 // Adds an octet to the block at an index, and gives the index after it, as every `put` does.
-fn put_octet(out: &mut Block, at: usize, octet: u8) -> usize {
-    let p = room_for(out, at, 1);
+fn put_octet(rt: &impl Print, out: &mut Block, at: usize, octet: u8) -> io::Result<usize> {
+    let p = room_for(rt, out, at, 1)?;
     out[p] = octet;
-    p + 1
+    Ok(p + 1)
 }
 
-fn put(out: &mut Block, at: usize, text: &[u8]) -> usize {
+fn put(rt: &impl Print, out: &mut Block, at: usize, text: &[u8]) -> io::Result<usize> {
     let mut p = at;
-    let mut i = 0;
-    while i < text.len() {
-        p = put_octet(out, p, text[i]);
-        i += 1;
+    for octet in text {
+        p = put_octet(rt, out, p, *octet)?;
     }
-    p
+    Ok(p)
 }
 
-fn put_number(out: &mut Block, at: usize, n: u64) -> usize {
-    let mut digits = [0u8; 20];
-    let count = io::decimal(n, &mut digits);
-    let p = put_octet(out, at, b'\t');
-    put(out, p, &digits[..count])
+// In decimal, without leading zeros: the last digit stands after those of a tenth of the number.
+fn put_digits(rt: &impl Print, out: &mut Block, at: usize, n: u64) -> io::Result<usize> {
+    let p = if n < 10 {
+        at
+    } else {
+        put_digits(rt, out, at, n / 10)?
+    };
+    put_octet(rt, out, p, b'0' + (n % 10) as u8)
+}
+
+fn put_number(rt: &impl Print, out: &mut Block, at: usize, n: u64) -> io::Result<usize> {
+    let p = put_octet(rt, out, at, b'\t')?;
+    put_digits(rt, out, p, n)
 }
 
 // The last digit of a number in base 16.
@@ -79,18 +87,21 @@ fn digit(n: u8) -> u8 {
 }
 
 // Each octet as so many digits: two of a call, one of a timer, which is below 10.
-fn put_octets(out: &mut Block, at: usize, octets: &[u8], width: usize) -> usize {
-    let mut p = put_octet(out, at, b'\t');
-    let mut i = 0;
-    while i < octets.len() {
-        let octet = octets[i];
+fn put_octets(
+    rt: &impl Print,
+    out: &mut Block,
+    at: usize,
+    octets: &[u8],
+    width: usize,
+) -> io::Result<usize> {
+    let mut p = put_octet(rt, out, at, b'\t')?;
+    for octet in octets {
         if width == 2 {
-            p = put_octet(out, p, digit(octet / 16));
+            p = put_octet(rt, out, p, digit(*octet / 16))?;
         }
-        p = put_octet(out, p, digit(octet));
-        i += 1;
+        p = put_octet(rt, out, p, digit(*octet))?;
     }
-    p
+    Ok(p)
 }
 
 // Writes the line straight into the block, which comes as a slice: a part of an array behind a reference cannot be lent.
@@ -100,70 +111,89 @@ fn put_answer_at(out: &mut [u8], at: usize, a: Answer) -> usize
     at + lines::write_answer(a, &mut out[at..])
 }
 
-fn put_answer(out: &mut Block, at: usize, a: Answer) -> usize {
-    let p = room_for(out, at, lines::ANSWER_ROOM);
-    put_answer_at(out, p, a)
+fn put_answer(rt: &impl Print, out: &mut Block, at: usize, a: Answer) -> io::Result<usize> {
+    let p = room_for(rt, out, at, lines::ANSWER_ROOM)?;
+    Ok(put_answer_at(out, p, a))
 }
 
-fn put_timers(out: &mut Block, at: usize, x: Notice) -> usize {
+fn put_timers(rt: &impl Print, out: &mut Block, at: usize, x: Notice) -> io::Result<usize> {
     let stopped = x.stopped;
     let started = x.started;
-    let p = put_octets(out, at, &stopped, 1);
-    put_octets(out, p, &started, 1)
+    let p = put_octets(rt, out, at, &stopped, 1)?;
+    put_octets(rt, out, p, &started, 1)
 }
 
-fn put_request(out: &mut Block, at: usize, n: Indication, x: Notice) -> usize {
+fn put_request(
+    rt: &impl Print,
+    out: &mut Block,
+    at: usize,
+    n: Indication,
+    x: Notice,
+) -> io::Result<usize> {
     let call = x.call;
     let p = match n {
-        Indication::On => put(out, at, b"on"),
-        Indication::Off => put(out, at, b"off"),
+        Indication::On => put(rt, out, at, b"on")?,
+        Indication::Off => put(rt, out, at, b"off")?,
     };
-    let p = put_octets(out, p, &call, 2);
-    let p = put_number(out, p, x.place.0 as u64);
-    let p = put_number(out, p, x.invoke.0 as u64);
-    let p = put_timers(out, p, x);
-    put_octet(out, p, b'\n')
+    let p = put_octets(rt, out, p, &call, 2)?;
+    let p = put_number(rt, out, p, x.place.0 as u64)?;
+    let p = put_number(rt, out, p, x.invoke.0 as u64)?;
+    let p = put_timers(rt, out, p, x)?;
+    put_octet(rt, out, p, b'\n')
 }
 
-fn put_notice(out: &mut Block, at: usize, x: Notice) -> usize {
+fn put_notice(rt: &impl Print, out: &mut Block, at: usize, x: Notice) -> io::Result<usize> {
     let asks = x.asks;
     match asks {
-        Asks::NoOne => at,
-        Asks::Each(n) => put_request(out, at, n, x),
+        Asks::NoOne => Ok(at),
+        Asks::Each(n) => put_request(rt, out, at, n, x),
     }
 }
 
-fn put_state(out: &mut Block, at: usize, g: Gp) -> usize {
+fn put_state(rt: &impl Print, out: &mut Block, at: usize, g: Gp) -> io::Result<usize> {
     let p = match g {
-        Gp::Idle => put(out, at, b"gp\tGP-Idle"),
-        Gp::NotifyOnRequ => put(out, at, b"gp\tGP-NotifyOnRequ"),
-        Gp::NotifyOffRequ => put(out, at, b"gp\tGP-NotifyOffRequ"),
+        Gp::Idle => put(rt, out, at, b"gp\tGP-Idle")?,
+        Gp::NotifyOnRequ => put(rt, out, at, b"gp\tGP-NotifyOnRequ")?,
+        Gp::NotifyOffRequ => put(rt, out, at, b"gp\tGP-NotifyOffRequ")?,
     };
-    let p = put_number(out, p, g.timer() as u64);
-    put_octet(out, p, b'\n')
+    let p = put_number(rt, out, p, g.timer() as u64)?;
+    put_octet(rt, out, p, b'\n')
 }
 
-fn put_reply(out: &mut Block, at: usize, number: u8, place: Place, stopped: u8) -> usize {
-    let p = put(out, at, b"reply");
-    let p = put_number(out, p, number as u64);
-    let p = put_number(out, p, place.0 as u64);
-    let p = put_number(out, p, stopped as u64);
-    put_octet(out, p, b'\n')
+fn put_reply(
+    rt: &impl Print,
+    out: &mut Block,
+    at: usize,
+    number: u8,
+    place: Place,
+    stopped: u8,
+) -> io::Result<usize> {
+    let p = put(rt, out, at, b"reply")?;
+    let p = put_number(rt, out, p, number as u64)?;
+    let p = put_number(rt, out, p, place.0 as u64)?;
+    let p = put_number(rt, out, p, stopped as u64)?;
+    put_octet(rt, out, p, b'\n')
 }
 
-fn take_event(s: Endpoint, line: &[u8], out: &mut Block, at: &mut usize) -> Endpoint {
+fn take_event(
+    rt: &impl Print,
+    s: Endpoint,
+    line: &[u8],
+    out: &mut Block,
+    at: &mut usize,
+) -> io::Result<Endpoint> {
     let read = lines::read_event(line);
     if read.number != 0 {
-        *at = put_answer(out, *at, answers::only_number(read.number));
-        return s;
+        *at = put_answer(rt, out, *at, answers::only_number(read.number))?;
+        return Ok(s);
     }
     let e = read.event;
     let told = lamps::tell(s, e);
     let a = told.answer;
     let x = told.notice;
-    let p = put_answer(out, *at, a);
-    *at = put_notice(out, p, x);
-    told.endpoint
+    let p = put_answer(rt, out, *at, a)?;
+    *at = put_notice(rt, out, p, x)?;
+    Ok(told.endpoint)
 }
 
 fn indication_of(kind: u8) -> Indication {
@@ -174,7 +204,13 @@ fn indication_of(kind: u8) -> Indication {
     }
 }
 
-fn take_reply(s: Endpoint, e: Event, out: &mut Block, at: &mut usize) -> Endpoint {
+fn take_reply(
+    rt: &impl Print,
+    s: Endpoint,
+    e: Event,
+    out: &mut Block,
+    at: &mut usize,
+) -> io::Result<Endpoint> {
     let l = s.lamps;
     let t = s.table;
     let call = e.call;
@@ -188,12 +224,12 @@ fn take_reply(s: Endpoint, e: Event, out: &mut Block, at: &mut usize) -> Endpoin
             indication: indication_of(e.kind),
         },
     );
-    *at = put_reply(out, *at, settled.number, settled.place, settled.stopped);
+    *at = put_reply(rt, out, *at, settled.number, settled.place, settled.stopped)?;
     let after = settled.lamps;
-    Endpoint {
+    Ok(Endpoint {
         table: t,
         lamps: after,
-    }
+    })
 }
 
 fn with_last(s: Endpoint, e: Event) -> Endpoint {
@@ -222,18 +258,24 @@ fn rest_of(line: &[u8]) -> Event
     read.event
 }
 
-fn take_line(s: Endpoint, line: &[u8], out: &mut Block, at: &mut usize) -> Endpoint {
+fn take_line(
+    rt: &impl Print,
+    s: Endpoint,
+    line: &[u8],
+    out: &mut Block,
+    at: &mut usize,
+) -> io::Result<Endpoint> {
     if line.len() == 0 {
-        return take_event(s, line, out, at);
+        return take_event(rt, s, line, out, at);
     }
     match line[0] {
-        b'r' => take_reply(s, rest_of(line), out, at),
+        b'r' => take_reply(rt, s, rest_of(line), out, at),
         b'g' => {
-            *at = put_state(out, *at, state_at(s, rest_of(line)));
-            s
+            *at = put_state(rt, out, *at, state_at(s, rest_of(line)))?;
+            Ok(s)
         }
-        b'n' => with_last(s, rest_of(line)),
-        _ => take_event(s, line, out, at),
+        b'n' => Ok(with_last(s, rest_of(line))),
+        _ => take_event(rt, s, line, out, at),
     }
 }
 
@@ -252,25 +294,44 @@ fn find_feed(text: &[u8], from: usize) -> usize
     end
 }
 
-fn take_all(text: &[u8]) {
+fn take_all(rt: &impl Print, text: &[u8]) -> io::Result<()> {
     let mut out = [0u8; BLOCK_OCTETS];
     let mut s = Endpoint::empty();
     let mut from: usize = 0;
     let mut at: usize = 0;
     while from < text.len() {
         let end = find_feed(text, from);
-        s = take_line(s, &text[from..end], &mut out, &mut at);
+        s = take_line(rt, s, &text[from..end], &mut out, &mut at)?;
         from = end + 1;
     }
-    flush(&out, at);
+    flush(rt, &out, at)
 }
 
-fn take_input(room: &mut [u8]) {
-    let n = io::read_full(STDIN_FILENO, room);
-    take_all(&room[..n]);
+// Reads until the room is full or the input ends, and gives the count of octets that came. A proved loop has to end, and nothing says that the
+// input does: the turns are numbers of which no run uses up the last.
+fn read_full(input: &mut impl Read, room: &mut [u8]) -> io::Result<usize>
+    ensures { IfOk result (λ n. n ≤ length room.new) }
+{
+    let mut done: usize = 0;
+    for _ in 0..u64::MAX {
+        if done == room.len() {
+            break;
+        }
+        let n = input.read(&mut room[done..])?;
+        if n == 0 {
+            break;
+        }
+        done += n;
+    }
+    Ok(done)
 }
 
-fn main() {
+fn take_input(rt: &(impl Input + Print), room: &mut [u8]) -> io::Result<()> {
+    let n = read_full(&mut rt.reader(), room)?;
+    take_all(rt, &room[..n])
+}
+
+fn main(rt: HostRuntime) -> io::Result<()> {
     let mut input = [0u8; INPUT_OCTETS];
-    take_input(&mut input);
+    take_input(&rt, &mut input)
 }

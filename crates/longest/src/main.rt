@@ -4,49 +4,53 @@
 #![tactic(auto)]
 
 use events::Answer;
-use libc::STDOUT_FILENO;
+use std::io;
 
-fn put_number(n: usize) {
-    io::print_decimal(STDOUT_FILENO, n as u64);
-    io::write_all(STDOUT_FILENO, b"\t");
+fn put_number(rt: &impl Print, n: usize) -> io::Result<()> {
+    print!(rt; "{n}\t")
 }
 
 // Writes the line of an answer into the room that was set aside for it.
-fn put_answer(a: Answer, room: &mut [u8]) {
-    put_number(room.len());
+fn put_answer(rt: &impl Print, a: Answer, room: &mut [u8]) -> io::Result<()> {
+    put_number(rt, room.len())?;
     let written = lines::write_answer(a, room);
-    put_number(written);
-    io::write_all(STDOUT_FILENO, room);
+    put_number(rt, written)?;
+    rt.write_all(room)
 }
 
 // Takes the event that a line says.
-fn take(image: &mut [u8], line: &[u8]) {
+fn take(rt: &impl Print, image: &mut [u8], line: &[u8]) -> io::Result<()> {
     let a = lent::answer_line(image, line);
     let offered = lines::answer_length(a);
     let mut room = [0u8; lines::ANSWER_ROOM];
-    put_answer(a, &mut room[..offered]);
+    put_answer(rt, a, &mut room[..offered])
 }
 
-fn main() {
+fn main(rt: HostRuntime) -> io::Result<()> {
     let mut image = [0u8; image::IMAGE_OCTETS];
     take(
+        &rt,
         &mut image,
         b"1\t00000000000000000000000000000001\t17\t0\t0\t0\t0",
-    );
+    )?;
     take(
+        &rt,
         &mut image,
         b"4\t00000000000000000000000000000001\t0\t0\t65535\t0\t0",
-    );
+    )?;
     take(
+        &rt,
         &mut image,
         b"6\t00000000000000000000000000000001\t0\t0\t0\t1\t0",
-    );
+    )?;
     take(
+        &rt,
         &mut image,
         b"4\t00000000000000000000000000000001\t0\t0\t65535\t0\t0",
-    );
+    )?;
     take(
+        &rt,
         &mut image,
         b"10\t00000000000000000000000000000001\t0\t0\t0\t0\t3",
-    );
+    )
 }

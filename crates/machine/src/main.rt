@@ -7,7 +7,7 @@ ghost use Rattle.std.specs.Prelude.{◌<◌};
 ghost use Rattle.table.specs.Places.{place_count};
 
 use events::Event;
-use libc::STDOUT_FILENO;
+use std::io;
 use table::{Call, Connection, Invoke, Place, Record, Side, State, Table};
 
 const CALL: Call = [1; Table::CALL_OCTETS];
@@ -94,101 +94,109 @@ fn event_at(side: Side, kind: u8, reply: Reply, timer: u8) -> Event {
     }
 }
 
-fn put(text: &[u8]) {
-    io::write_all(STDOUT_FILENO, text);
+fn put(rt: &impl Print, text: &[u8]) -> io::Result<()> {
+    rt.write_all(text)
 }
 
-fn put_side(side: Side) {
+fn put_side(rt: &impl Print, side: Side) -> io::Result<()> {
     match side {
-        Side::Position => put(b"position"),
-        Side::Line => put(b"line"),
+        Side::Position => put(rt, b"position"),
+        Side::Line => put(rt, b"line"),
     }
 }
 
 // A number in a column after the first.
-fn put_column(n: u8) {
-    put(b"\t");
-    io::print_decimal(STDOUT_FILENO, n as u64);
+fn put_column(rt: &impl Print, n: u8) -> io::Result<()> {
+    print!(rt; "\t{n}")
 }
 
-fn put_reply(reply: Reply) {
+fn put_reply(rt: &impl Print, reply: Reply) -> io::Result<()> {
     match reply {
-        Reply::Right => put(b"\tright"),
-        Reply::Wrong => put(b"\twrong"),
-        Reply::NoReply => put(b"\t-"),
+        Reply::Right => put(rt, b"\tright"),
+        Reply::Wrong => put(rt, b"\twrong"),
+        Reply::NoReply => put(rt, b"\t-"),
     }
 }
 
-fn put_timer(timer: u8) {
+fn put_timer(rt: &impl Print, timer: u8) -> io::Result<()> {
     if timer == NO_TIMER {
-        put(b"\t-");
+        put(rt, b"\t-")
     } else {
-        put_column(timer);
+        put_column(rt, timer)
     }
 }
 
 // The row of an event, unless the event is done at another place: a park that proposes a line starts at a position, and an alert that
 // proposes a position at a line, so those are of the other side's machine.
-fn put_row(side: Side, state: State, kind: u8, reply: Reply, timer: u8) {
+fn put_row(
+    rt: &impl Print,
+    side: Side,
+    state: State,
+    kind: u8,
+    reply: Reply,
+    timer: u8,
+) -> io::Result<()> {
     let e = event_at(side, kind, reply, timer);
     let s = lent::single_step(table_before(side, state), e);
     let a = s.answer;
     if a.number == 0 {
         if a.place.0 != e.place.0 {
-            return;
+            return Ok(());
         }
     }
     let t = s.table;
-    put_side(side);
-    put_column(state.number());
-    put_column(kind);
-    put_reply(reply);
-    put_timer(timer);
-    put_column(a.number);
-    put_column(state_after(t, side).number());
-    put_column(a.first.message);
-    put_column(a.first.error);
-    put_column(a.started);
-    put_column(a.stopped);
-    put_column(a.second.message);
-    put_column(a.second.error);
-    put(b"\n");
+    put_side(rt, side)?;
+    put_column(rt, state.number())?;
+    put_column(rt, kind)?;
+    put_reply(rt, reply)?;
+    put_timer(rt, timer)?;
+    put_column(rt, a.number)?;
+    put_column(rt, state_after(t, side).number())?;
+    put_column(rt, a.first.message)?;
+    put_column(rt, a.first.error)?;
+    put_column(rt, a.started)?;
+    put_column(rt, a.stopped)?;
+    put_column(rt, a.second.message)?;
+    put_column(rt, a.second.error)?;
+    put(rt, b"\n")
 }
 
 // The rows of a kind: one for each reply or timer that it can name.
-fn put_kind(side: Side, state: State, kind: u8) {
+fn put_kind(rt: &impl Print, side: Side, state: State, kind: u8) -> io::Result<()> {
     match kind {
         5..=7 => {
-            put_row(side, state, kind, Reply::Right, NO_TIMER);
-            put_row(side, state, kind, Reply::Wrong, NO_TIMER);
+            put_row(rt, side, state, kind, Reply::Right, NO_TIMER)?;
+            put_row(rt, side, state, kind, Reply::Wrong, NO_TIMER)
         }
         10 => {
-            put_row(side, state, kind, Reply::NoReply, 3);
-            put_row(side, state, kind, Reply::NoReply, 6);
-            put_row(side, state, kind, Reply::NoReply, 9);
+            put_row(rt, side, state, kind, Reply::NoReply, 3)?;
+            put_row(rt, side, state, kind, Reply::NoReply, 6)?;
+            put_row(rt, side, state, kind, Reply::NoReply, 9)
         }
-        _ => put_row(side, state, kind, Reply::NoReply, NO_TIMER),
+        _ => put_row(rt, side, state, kind, Reply::NoReply, NO_TIMER),
     }
 }
 
-fn put_state(side: Side, state: State) {
+fn put_state(rt: &impl Print, side: Side, state: State) -> io::Result<()> {
     for kind in 1..=10 {
-        put_kind(side, state, kind);
+        put_kind(rt, side, state, kind)?;
     }
+    Ok(())
 }
 
-fn put_machine(side: Side) {
-    put_state(side, State::Free);
-    put_state(side, side.waiting());
-    put_state(side, State::Requested);
-    put_state(side, State::RemoteRequested);
-    put_state(side, State::HandedOver);
+fn put_machine(rt: &impl Print, side: Side) -> io::Result<()> {
+    put_state(rt, side, State::Free)?;
+    put_state(rt, side, side.waiting())?;
+    put_state(rt, side, State::Requested)?;
+    put_state(rt, side, State::RemoteRequested)?;
+    put_state(rt, side, State::HandedOver)
 }
 
-fn main() {
+fn main(rt: HostRuntime) -> io::Result<()> {
     put(
+        &rt,
         b"side\tstate\tkind\tinvoke\ttimer\tnumber\tstate after\tmessage\terror\tstarted\tstopped\tsecond message\tsecond error\n",
-    );
-    put_machine(Side::Position);
-    put_machine(Side::Line);
+    )?;
+    put_machine(&rt, Side::Position)?;
+    put_machine(&rt, Side::Line)
 }

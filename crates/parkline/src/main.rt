@@ -1,6 +1,8 @@
 // parkline: event lines from standard input, an answer line each to standard output.
 #![tactic(auto)]
 
-fn main() {
-    console::answer_all();
+use std::io;
+
+fn main(rt: HostRuntime) -> io::Result<()> {
+    console::answer_all(&rt)
 }
