@@ -13,7 +13,7 @@ use Rattle.clauses.specs.declared.Report.{Report}
 use Rattle.clauses.specs.declared.Report.TheVariants.{Quiet}
 use Rattle.clauses.specs.declared.Answer.{Answer}
 
--- clause 11: call_already_picked_up has the code 2001
+-- clause 11: callAlreadyPickedUp has the code 2001
 abbrev pub call_already_picked_up : ErrorValue
 call_already_picked_up = record { 0 = 2001 }
 
@@ -21,7 +21,7 @@ call_already_picked_up = record { 0 = 2001 }
 abbrev pub undefined : ErrorValue
 undefined = record { 0 = 2002 }
 
--- document 01, "Errors (house numbers): 0 none, 1 undefined, 2 call_already_picked_up". Every other number is no error, as 0 is.
+-- document 01, "Errors (house numbers): 0 none, 1 undefined, 2 callAlreadyPickedUp". Every other number is no error, as 0 is.
 abbrev pub wire_error : ℕ → WireError
 wire_error number = cond (eqb number 1) (Is undefined) (cond (eqb number 2) (Is call_already_picked_up) NoError)
 

@@ -9,7 +9,7 @@ pub mod parking;
 ghost use Rattle.std.specs.Prelude.{◌≡◌};
 ghost use Rattle.clauses.specs.Answer.{wire_error, value_of, timer_number};
 
-// An error as it stands on the wire. Clause 11 has 2000 for callPickupIdInvalid, 2001 for call_already_picked_up, 2002 for undefined; every other value
+// An error as it stands on the wire. Clause 11 has 2000 for callPickupIdInvalid, 2001 for callAlreadyPickedUp, 2002 for undefined; every other value
 // is handed on as it comes.
 #[derive(Clone, Copy)]
 pub struct ErrorValue(pub u16);

@@ -9,7 +9,7 @@ use Rattle.events.specs.declared.message.Sent.{Sent}
 use Rattle.events.specs.declared.message.ErrorValue.{ErrorValue}
 use Rattle.events.specs.declared.message.ErrorValue.TheVariants.{Undefined, CallAlreadyPickedUp}
 
--- "Errors (house numbers): 0 none, 1 undefined, 2 call_already_picked_up."
+-- "Errors (house numbers): 0 none, 1 undefined, 2 callAlreadyPickedUp."
 abbrev pub error_number : ErrorValue → ℕ
 error_number Undefined = 1
 error_number CallAlreadyPickedUp = 2

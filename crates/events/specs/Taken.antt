@@ -39,6 +39,6 @@ PickupNumbered = (s : State) (c : Connection) (to : Stage) (n : Invoke) (m : Mes
 abbrev pub is_taken : ℕ → Bool
 is_taken number = number == 7 || (number == 11 || number == 12)
 
--- `taken_alike`: "On the wire all three stay call_already_picked_up."
+-- `taken_alike`: "On the wire all three stay callAlreadyPickedUp."
 abbrev pub TakenAlike : Type 0
 TakenAlike = (w : Refusal) (c : Connection) → is_taken (refusal_number w) ≡ true → pick_request_refused w c ≡ PickError c CallAlreadyPickedUp
