@@ -1,6 +1,6 @@
 -- A call in state 4 has a picker who waits for a reply: a signal that is accepted there sends just one, to that picker, and takes the call out
 -- of that state. At a call in another state no signal sends a reply.
-use Rattle.std.proofs.Common.{◌≡◌, true, false, sym, refl, ap, ◌∙◌, true≢false}
+use Rattle.std.proofs.Common.{◌≡◌, false, sym, refl, ap, ◌∙◌, true≢false}
 use mathlib.Core.Bool.{false≢true}
 use Rattle.table.specs.declared.Connection.{Connection}
 use Rattle.table.specs.declared.Invoke.{Invoke}

@@ -7,7 +7,6 @@ use mathlib.Core.Logic.{⊎_elim}
 use Prim.Native.Nat.{ℕ}
 use native.Mathlib.Omega.{arith}
 use Rattle.table.specs.declared.Invoke.{Invoke}
-use Rattle.table.specs.declared.State.{State}
 use Rattle.table.specs.declared.State.TheVariants.{RemoteRequested}
 use Rattle.table.specs.declared.Side.{Side}
 use Rattle.table.specs.declared.Side.TheVariants.{Position, Line}

@@ -1,9 +1,9 @@
 -- A turn writes a field and the tab after it; what is left at the end of the loop is the last field.
-use Rattle.std.proofs.Common.{◌≡◌, ◌+◌, ◌-◌, length, drop, get_or, sym, ap, ◌∙◌, arith}
+use Rattle.std.proofs.Common.{◌-◌, length, get_or, sym, ap, ◌∙◌, arith}
 use Rattle.std.proofs.lemmas.List.Edits.{sets}
 use Rattle.std.proofs.Math.ListN.{length-set}
 use Rattle.laws.proofs.Runs.{sets_length}
-use Rattle.fields.specs.Line.{text, line_from}
+use Rattle.fields.specs.Line.{text}
 use Rattle.fields.proofs.Texts.{line_last, length_step, step_written}
 use Rattle.fields.proofs.put_fields.Goals as goal
 

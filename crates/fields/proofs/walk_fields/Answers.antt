@@ -1,5 +1,5 @@
 -- A turn goes on by a field or ends the walk, by the laws of `Walk`.
-use Rattle.std.proofs.Common.{◌≡◌, ℕ, ◌+◌, ◌-◌, ◌<◌, ◌≤◌, ◌^◌, true, false, List, length, drop, get_or, sym, ap, ap₂, ◌∙◌, arith, rules, length-drop}
+use Rattle.std.proofs.Common.{◌≡◌, ℕ, ◌+◌, ◌-◌, ◌<◌, ◌≤◌, ◌^◌, List, length, drop, get_or, sym, ap, ap₂, ◌∙◌, arith, rules}
 use Rattle.std.proofs.lemmas.Bool.{not-true, not-false}
 use Rattle.std.proofs.Math.ListN.{length-set}
 use Rattle.laws.proofs.Runs.{part_rest}
@@ -7,7 +7,6 @@ use Rattle.fields.specs.Parts.{before}
 use Rattle.fields.specs.Calls.{call_of}
 use Rattle.fields.specs.Numbers.{number_of}
 use Rattle.fields.specs.Line.{walk}
-use Rattle.fields.proofs.PartLaws.{before_within}
 use Rattle.fields.proofs.NumberLaws.{number_most}
 use Rattle.fields.proofs.Walk.{call_bad, number_bad, call_good, number_good, walk_end, tab_on}
 use Rattle.fields.proofs.walk_fields.Goals as goal
@@ -57,17 +56,17 @@ loop-i-preserved c =
     let here = c.loop-i.invariant.2 within in (
       omega arith,
       elim c.if-m-eq-CALL.branch [
-        then-m-eq-CALL+else-not-c w ↦ ap length w.values-is ∙ c.loop-i.invariant.1
+        | then-m-eq-CALL+else-not-c w ↦ ap length w.values-is ∙ c.loop-i.invariant.1
         | else-m-eq-CALL+in-Is w ↦ ap length w.values-is ∙ length-set c.loop-i.values i _ ∙ c.loop-i.invariant.1
       ],
       λ more. let t = tab_on line at e (length most - (i + 1) - 1) here.0 ends (omega arith) in (t.0, omega arith),
       elim c.if-m-eq-CALL.branch [
-        then-m-eq-CALL+else-not-c w ↦
-          ap₂ (walk (drop (i + 1) most) (i + 1) (drop (at + e + 1) line)) w.values-is w.call-is
-          ∙ sym (call_good line most _ _ at i within e ends w.read_call-c.result w.if-m-eq-CALL.true (w.read_call-c.ensures ∙ ap call_of field) (not-false w.read_call-c.result.good w.if-not-c.false))
+        | then-m-eq-CALL+else-not-c w ↦
+            ap₂ (walk (drop (i + 1) most) (i + 1) (drop (at + e + 1) line)) w.values-is w.call-is
+            ∙ sym (call_good line most _ _ at i within e ends w.read_call-c.result w.if-m-eq-CALL.true (w.read_call-c.ensures ∙ ap call_of field) (not-false w.read_call-c.result.good w.if-not-c.false))
         | else-m-eq-CALL+in-Is w ↦
-          ap₂ (walk (drop (i + 1) most) (i + 1) (drop (at + e + 1) line)) w.values-is w.call-is
-          ∙ sym (number_good line most _ _ at i within e ends w.in-Is.v w.if-m-eq-CALL.false (sym (w.read_number.ensures ∙ ap (λ (f : List ℕ). number_of f (get_or most i 0)) field) ∙ w.in-Is.is))
+            ap₂ (walk (drop (i + 1) most) (i + 1) (drop (at + e + 1) line)) w.values-is w.call-is
+            ∙ sym (number_good line most _ _ at i within e ends w.in-Is.v w.if-m-eq-CALL.false (sym (w.read_number.ensures ∙ ap (λ (f : List ℕ). number_of f (get_or most i 0)) field) ∙ w.in-Is.is))
       ] ∙ c.loop-i.invariant.3,
     )
 

@@ -2,7 +2,7 @@
 -- does not reach here, is taken from what is known of the argument's type.
 use Rattle.std.proofs.Common.{◌≡◌, length, eq-eqb}
 use Rattle.table.specs.Places.{place_count}
-use Rattle.lamps.proofs.Accepted.{Inside, accepted_inside}
+use Rattle.lamps.proofs.Accepted.{accepted_inside}
 use Rattle.lamps.proofs.tell.Goals as goal
 
 pub overflow_sub-i : goal.overflow_sub-i

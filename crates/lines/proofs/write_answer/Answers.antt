@@ -5,7 +5,7 @@ use Rattle.fields.specs.Line.{Writes}
 use Rattle.laws.proofs.Runs.{length_snoc}
 use Rattle.lines.specs.AnswerLine.{answer_text, answer_line}
 use Rattle.lines.proofs.Lengths.{length_answer}
-use Rattle.lines.proofs.Feed.{none_written, room_left, feed_written}
+use Rattle.lines.proofs.Feed.{none_written, feed_written}
 use Rattle.lines.proofs.write_answer.Goals as goal
 
 -- no line is empty

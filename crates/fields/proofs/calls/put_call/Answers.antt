@@ -1,5 +1,5 @@
 -- A turn writes the two digits of the next octet.
-use Rattle.std.proofs.Common.{◌≡◌, ℕ, ◌+◌, List, length, take, set, sym, ap, ap₂, ◌∙◌, arith, rules, length-take-le}
+use Rattle.std.proofs.Common.{◌≡◌, ℕ, ◌+◌, length, take, set, sym, ap, ap₂, ◌∙◌, arith, rules, length-take-le}
 use Rattle.std.proofs.lemmas.List.Edits.{sets}
 use Rattle.std.proofs.Math.ListN.{length-set}
 use Rattle.laws.proofs.Runs.{sets_two}

@@ -1,7 +1,6 @@
 -- A turn of the first loop keeps the value of one octet more, and a turn of the second makes an octet of two values.
 use Rattle.std.proofs.Common.{◌≡◌, ℕ, ◌+◌, ◌*◌, ◌<◌, ◌≤◌, List, drop, get_or, sym, ap, ◌∙◌, arith}
 use Rattle.std.proofs.Math.ListN.{length-set}
-use mathlib.Core.Logic.{⊎_elim}
 use Rattle.laws.proofs.Runs.{fill_more}
 use Rattle.fields.specs.Calls.{bad_call, call_of, call_from}
 use Rattle.fields.proofs.CallLaws.{Stored, bad_digit, stored_more, call_on}
@@ -15,7 +14,7 @@ loop-k-preserved c =
     let v = c.nibble-v.result in
     let largest : (l.most ≤ c.if-most-v.most) × (v ≤ c.if-most-v.most) × (15 < c.if-most-v.most → call_of s ≡ bad_call) =
     elim c.if-most-v.branch [
-      then-most-v w ↦ (omega arith, omega arith, λ b. bad_digit s l.k (omega arith) (omega (arith, c.nibble-v.ensures)))
+      | then-most-v w ↦ (omega arith, omega arith, λ b. bad_digit s l.k (omega arith) (omega (arith, c.nibble-v.ensures)))
       | else-most-v w ↦ (omega arith, omega arith, λ b. l.invariant.2 (omega arith))
     ] in (
       omega arith,
@@ -32,8 +31,8 @@ loop-i-preserved c =
     let a = c.loop-i.a in
     let value = λ (n : ℕ). get_or values n 0 in
     let stored = λ (n : ℕ) (h : n < 32).
-      let g = c.loop-k.invariant.3 n (omega (arith, c.loop-k-test.false)) in
-      let both : Stored s values 15 n = (g.0, omega (arith, g.1, c.if-most-gt15.false)) in both in
+    let g = c.loop-k.invariant.3 n (omega (arith, c.loop-k-test.false)) in
+    let both : Stored s values 15 n = (g.0, omega (arith, g.1, c.if-most-gt15.false)) in both in
     let high = stored (i * 2) (omega arith) in
     let low = stored (i * 2 + 1) (omega arith) in
     let v = value (i * 2) * 16 + value (i * 2 + 1) in (

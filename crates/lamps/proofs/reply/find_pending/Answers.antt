@@ -1,5 +1,5 @@
 -- A turn looks at one place more.
-use Rattle.std.proofs.Common.{◌≡◌, true, false, length, get_or, sym, ◌∙◌, arith, rules}
+use Rattle.std.proofs.Common.{◌≡◌, true, false, length, get_or, sym, ◌∙◌, arith}
 use Rattle.laws.proofs.Runs.{length_mapped}
 use Rattle.table.specs.Places.{place_count}
 use Rattle.table.proofs.Searches.{lowest_at, lowest_end}

@@ -1,6 +1,6 @@
 -- What stands so far is the run of the octets of the first i places; all of them are as long as the buffer. That each call has its octets, which its
 -- type says, is seen on the way.
-use Rattle.std.proofs.Common.{◌≡◌, ℕ, ◌+◌, ◌*◌, ◌<◌, ◌≤◌, [], ◌∷◌, ◌++◌, length, get_or, take, sym, refl, ap, ◌∙◌, ap₂, arith, rules, length-append, length-set, take_all}
+use Rattle.std.proofs.Common.{◌≡◌, ◌+◌, ◌*◌, [], ◌∷◌, ◌++◌, length, get_or, take, sym, refl, ap, ◌∙◌, ap₂, arith, rules, length-append, length-set, take_all}
 use Rattle.std.proofs.lemmas.List.Edits.{sets}
 use Rattle.laws.proofs.Runs.{length_mapped, length_snoc, sets_more, sets_on, sets_all}
 use Rattle.table.specs.Places.{place_count, blank}

@@ -1,5 +1,5 @@
 -- The records and the ranks so far are those of the definition, index by index.
-use Rattle.std.proofs.Common.{◌≡◌, ℕ, ◌+◌, ◌<◌, ◌≤◌, List, length, get_or, set, sym, ◌∙◌, ⊎_elim, arith, length-set, get_or-set_other, get_or-set_same, ext_get_or}
+use Rattle.std.proofs.Common.{◌≡◌, ℕ, ◌+◌, ◌<◌, List, length, get_or, set, sym, ◌∙◌, ⊎_elim, arith, length-set, get_or-set_other, get_or-set_same, ext_get_or}
 use Rattle.laws.proofs.Bools.{equal_or}
 use Rattle.table.specs.Places.{place_count, blank, record_at, rank_at}
 use Rattle.image.specs.Image.{rank_octet, table_from}

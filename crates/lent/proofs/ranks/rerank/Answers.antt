@@ -1,5 +1,5 @@
 -- Each of the four ways is a clause of the definition. A side has at most 96 calls, and so one more has a rank that is an octet.
-use Rattle.std.proofs.Common.{◌≡◌, sym, ap, ◌∙◌, arith, eq-eqb, ne_eqb}
+use Rattle.std.proofs.Common.{sym, ap, ◌∙◌, arith, eq-eqb, ne_eqb}
 use Rattle.table.specs.Places.{side_at}
 use Rattle.table.specs.Ranks.{calls_on}
 use Rattle.table.proofs.RankLaws.{calls_few}

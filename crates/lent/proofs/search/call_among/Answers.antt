@@ -1,5 +1,5 @@
 -- What is left to search decides.
-use Rattle.std.proofs.Common.{◌≡◌, sym, ◌∙◌, arith}
+use Rattle.std.proofs.Common.{sym, ◌∙◌, arith}
 use Rattle.table.specs.Search.{holds}
 use Rattle.image.proofs.Looks.{lowest_place, lowest_past}
 use Rattle.lent.proofs.search.call_among.Goals as goal

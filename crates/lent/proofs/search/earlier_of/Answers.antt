@@ -1,5 +1,5 @@
 -- What was found before has the lower rank octet, or this place has.
-use Rattle.std.proofs.Common.{arith, rules, le-ltb, lt-ltb}
+use Rattle.std.proofs.Common.{le-ltb, lt-ltb}
 use Rattle.image.proofs.Round.{rank_at_lem}
 use Rattle.lent.proofs.search.earlier_of.Goals as goal
 

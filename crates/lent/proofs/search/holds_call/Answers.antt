@@ -1,5 +1,5 @@
 -- The call is compared with all of the octets given (`whole_call`), and the state octet is 0 where the place is free.
-use Rattle.std.proofs.Common.{◌≡◌, ◌+◌, ◌*◌, take, drop, sym, ap, ◌∙◌}
+use Rattle.std.proofs.Common.{◌+◌, ◌*◌, take, drop, sym, ap, ◌∙◌}
 use Rattle.table.specs.Search.{same_call}
 use Rattle.image.specs.Image.{place_octets}
 use Rattle.image.proofs.Looks.{holds_same, holds_other, whole_call}

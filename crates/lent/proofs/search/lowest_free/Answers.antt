@@ -1,10 +1,9 @@
 -- What is left to search decides; places of the other side are none of this one's.
-use Rattle.std.proofs.Common.{◌≡◌, ◌≤◌, eqb, sym, ap, ◌∙◌, arith, eq-eqb, ne_eqb}
+use Rattle.std.proofs.Common.{◌≡◌, ◌≤◌, sym, ap, ◌∙◌, arith, eq-eqb, ne_eqb}
 use Rattle.table.specs.declared.State.TheVariants.{Free}
-use Rattle.table.specs.Places.{place_count, side_at, first_index, end_index}
+use Rattle.table.specs.Places.{place_count, side_at, end_index}
 use Rattle.table.specs.Search.{is_at}
 use Rattle.table.proofs.Sides.{end_inside, side_inside, side_first}
-use Rattle.image.specs.Image.{state_octet, record_in}
 use Rattle.image.proofs.PlaceLaws.{free_at}
 use Rattle.image.proofs.Looks.{lowest_place, lowest_first, lowest_last}
 use Rattle.lent.proofs.search.lowest_free.Invariants.{left_on}

@@ -59,7 +59,7 @@ loop-i-preserved c =
       omega arith,
       omega arith,
       elim c.if-image-i.branch [
-        then-image-i w ↦ w.found-is ∙ w.earlier_of-found.ensures ∙ ap (earlier t i) so_far ∙ ap by (sym (test ∙ eq-eqb _ _ w.if-image-i.true)) ∙ sym (earliest_more t a i) ∙ by_first
+        | then-image-i w ↦ w.found-is ∙ w.earlier_of-found.ensures ∙ ap (earlier t i) so_far ∙ ap by (sym (test ∙ eq-eqb _ _ w.if-image-i.true)) ∙ sym (earliest_more t a i) ∙ by_first
         | else-image-i w ↦ w.found-is ∙ so_far ∙ ap by (sym (test ∙ ne_eqb _ _ w.if-image-i.false)) ∙ sym (earliest_more t a i) ∙ by_first
       ],
     )

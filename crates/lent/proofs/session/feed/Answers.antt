@@ -1,6 +1,6 @@
 -- A line that has ended takes what is left past its feed (`feeding_on`), and where no feed is left it gives the answer (`feeding_end`). There is
 -- room for an answer, since each line has its feed.
-use Rattle.std.proofs.Common.{◌≡◌, ℕ, ◌+◌, ◌*◌, ◌<◌, ◌≤◌, true, List, length, take, drop, sym, ap, ◌∙◌, arith, rules, le-ltb}
+use Rattle.std.proofs.Common.{◌≡◌, ◌+◌, true, length, take, drop, sym, ap, ◌∙◌, rules, le-ltb}
 use Rattle.std.proofs.lemmas.List.Edits.{sets}
 use Rattle.lines.specs.AnswerLine.{answer_line}
 use Rattle.image.specs.Image.{is_sound_image}
@@ -8,7 +8,7 @@ use Rattle.lent.specs.declared.session.Session.{Session}
 use Rattle.lent.specs.Lent.{step_on, left_on}
 use Rattle.lent.specs.Session.{end_line, pending, restart}
 use Rattle.lent.specs.Keep.{until_feed}
-use Rattle.lent.proofs.KeepLaws.{kept_by, kept_size, take_at_most}
+use Rattle.lent.proofs.KeepLaws.{kept_by, take_at_most}
 use Rattle.lent.proofs.Feeds.{feeding_same, feeding_end, feeding_on}
 use Rattle.lent.proofs.session.feed.Invariants.{session}
 use Rattle.lent.proofs.session.feed.Goals as goal

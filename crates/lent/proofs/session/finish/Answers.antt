@@ -1,5 +1,5 @@
 -- A line that has come in part is answered as it stands.
-use Rattle.std.proofs.Common.{◌≡◌, length, take, sym, ap, ◌∙◌, rules, le-ltb, ne_eqb}
+use Rattle.std.proofs.Common.{◌≡◌, length, take, ap, ◌∙◌, rules, le-ltb, ne_eqb}
 use Rattle.lent.proofs.KeepLaws.{take_at_most}
 use Rattle.lent.proofs.session.finish.Goals as goal
 

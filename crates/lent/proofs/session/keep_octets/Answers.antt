@@ -1,5 +1,5 @@
 -- What stands so far is the run of the first k of the octets.
-use Rattle.std.proofs.Common.{◌≡◌, ℕ, ◌+◌, ◌<◌, List, length, drop, set, sym, ap, ◌∙◌, arith, length-drop, get_or-drop}
+use Rattle.std.proofs.Common.{ℕ, ◌+◌, ◌<◌, List, length, drop, set, sym, ap, ◌∙◌, arith, length-drop, get_or-drop}
 use Rattle.laws.proofs.Runs.{store_more}
 use Rattle.lent.proofs.session.keep_octets.Goals as goal
 

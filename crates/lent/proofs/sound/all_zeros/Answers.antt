@@ -1,9 +1,9 @@
 -- Sixteen zeros are two words of zero, and connection and count are zero where the four octets are.
-use Rattle.std.proofs.Common.{◌≡◌, ℕ, ◌+◌, ◌≤◌, ◌<◌, eqb, List, length, take, drop, get_or, sym, refl, ap, ◌∙◌, ap₂, arith, rules, eq-eqb, ne_eqb}
+use Rattle.std.proofs.Common.{◌≡◌, ℕ, ◌+◌, ◌≤◌, eqb, List, length, take, drop, sym, refl, ap, ◌∙◌, ap₂, arith, rules, eq-eqb, ne_eqb}
 use Rattle.table.specs.Places.{no_call}
 use Rattle.table.specs.Search.{same_call}
 use Rattle.image.specs.Image.{record_from}
-use Rattle.image.specs.Quick.{low_first, run_at}
+use Rattle.image.specs.Quick.{run_at}
 use Rattle.image.specs.Round.{Octets}
 use Rattle.image.proofs.WordLaws.{run_four_zero, first_word, second_word, long_call, call_octets_lem, first_differs, second_decides, zero_octets, first_zero, second_zero}
 use Rattle.lent.proofs.sound.all_zeros.Goals as goal

@@ -1,5 +1,5 @@
 -- A walk through the places of a bucket, from the last one down.
-use Rattle.std.proofs.Common.{◌≡◌, ℕ, suc, ◌-◌, ◌<◌, List, get_or, sym, ap, ◌∙◌, arith}
+use Rattle.std.proofs.Common.{◌≡◌, ℕ, suc, ◌-◌, ◌<◌, List, sym, ap, ◌∙◌, arith}
 use Rattle.laws.proofs.Bools.{not_both}
 use Rattle.table.specs.Search.{same_call}
 use Rattle.table.proofs.Calls.{same_is, same_self}

@@ -1,7 +1,7 @@
 -- Each arm is one of the laws of a place's octets.
 use Rattle.std.proofs.Common.{ℕ, eqb, sym, ap, ◌∙◌, arith}
 use Rattle.table.specs.Places.{state_number, missing_on}
-use Rattle.image.proofs.PlaceLaws.{fits_free, fits_none, fits_missing, fits_remote, fits_other}
+use Rattle.image.proofs.PlaceLaws.{fits_free, fits_missing, fits_remote, fits_other}
 use Rattle.lent.proofs.sound.place_fits.Goals as goal
 
 pub returns-then-s-eq0 : goal.returns-then-s-eq0

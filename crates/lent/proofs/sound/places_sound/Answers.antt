@@ -1,5 +1,5 @@
 -- A place that does not fit, or a call or a rank that stands twice, decides against the image; when all are entered, it is one of a sound table.
-use Rattle.std.proofs.Common.{◌≡◌, ℕ, ◌≤◌, Bool, true, false, sym, refl, ◌∙◌, subst, arith}
+use Rattle.std.proofs.Common.{◌≡◌, ℕ, Bool, true, false, sym, refl, ◌∙◌, subst, arith}
 use Rattle.laws.specs.Lists.{below}
 use Rattle.laws.proofs.Bools.{not_both}
 use Rattle.laws.proofs.Lists.{below_none, below_more, below_get}

@@ -1,7 +1,6 @@
 -- What a place adds to each sum.
-use Rattle.std.proofs.Common.{◌≡◌, ℕ, ◌+◌, ◌*◌, ◌<◌, ◌≤◌, cond, ◌&&◌, List, drop, sym, ap, ◌∙◌, ap₂, arith}
+use Rattle.std.proofs.Common.{◌≡◌, ℕ, ◌<◌, ◌≤◌, cond, ◌&&◌, sym, ap, ◌∙◌, ap₂, arith}
 use lib.Count.{ones}
-use Rattle.table.specs.declared.Record.{Record}
 use Rattle.table.specs.declared.State.{State}
 use Rattle.table.specs.declared.Side.{Side}
 use Rattle.table.specs.declared.Side.TheVariants.{Position, Line}

@@ -1,5 +1,5 @@
 -- A turn writes the timer of one member more.
-use Rattle.std.proofs.Common.{◌≡◌, ◌≤◌, false, map, length, get_or, sym, ap, ◌∙◌, arith, rules, length-set, take_all}
+use Rattle.std.proofs.Common.{◌≡◌, false, map, length, get_or, sym, ap, ◌∙◌, arith, rules, length-set, take_all}
 use Rattle.lamps.specs.Members.{timer_in, gp_in}
 use Rattle.lamps.proofs.Numbers.{filled_more}
 use Rattle.lamps.proofs.members.Lamp.timers.Goals as goal
