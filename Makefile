@@ -1,9 +1,9 @@
 .PHONY: test run example install bench runs
 
 PREFIX ?= /usr/local
-LIBRARY = target/staticlib/libentry.a
-PROGRAM = target/bin/parkline
-LAMPLINE = target/bin/lampline
+LIBRARY = crates/entry_c/out/libentry_c.a
+PROGRAM = crates/parkline/out/parkline
+LAMPLINE = crates/lampline/out/lampline
 
 # What Rattle compiles is for x86-64. On any other machine an emulator runs it, and C is compiled by a compiler for x86-64.
 ifneq ($(shell uname -m),x86_64)
@@ -22,14 +22,15 @@ runs:
 
 # the session of the scope paper: its five event lines, and the answers
 run: runs
-	rt check parkline
-	target/bin/parkline < crates/parkline/stdin
+	@.ci/build parkline
+	$(PROGRAM) < crates/parkline/stdin
 
 # the example host in C, on its script of events
 example: runs target/host
 	target/host < examples/c/script.txt
 
 target/host: examples/c/host.c include/park.h $(LIBRARY)
+	@mkdir -p target
 	$(CC) -std=c99 -Wall -Wextra -Werror -O2 -Iinclude examples/c/host.c $(LIBRARY) -o $@
 
 # library, header, program and man pages, below DESTDIR and PREFIX; no gate is run, and only what is missing is built
@@ -51,10 +52,10 @@ bench: $(LIBRARY) $(PROGRAM) $(LAMPLINE)
 	@bash -c '. .ci/x86-64.sh >&2 && cd tests/peer && cargo bench --offline --bench park'
 
 $(LIBRARY):
-	rt staticlib entry
+	.ci/build entry_c
 
 $(PROGRAM):
-	rt check parkline
+	.ci/build parkline
 
 $(LAMPLINE):
-	rt check lampline
+	.ci/build lampline

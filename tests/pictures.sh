@@ -82,8 +82,9 @@ function sent(first, second) {
     return first ? " / message " first : ""
 }
 
-# An entry of crates.txt: its crate and what that stands on are boxes, with an arrow between them.
+# An entry of crates.txt: its crate and what that stands on are boxes, with an arrow between them. A static library is a crate like any other.
 function entry(    from, i) {
+    sub(/ staticlib:/, ":")
     sub(/:/, " ")
     from = $1
     want["crates", from]

@@ -281,9 +281,10 @@ def check_name(where, name, asked, path, written):
 
 
 def libraries():
+    """Not the static library for C: its exports have the clauses of the functions that they call."""
     for line in lines_of("crates.txt"):
-        crate = line.split("#")[0].split(":")[0].strip()
-        if crate and os.path.isfile(f"crates/{crate}/src/lib.rt"):
+        crate, *kind = line.split("#")[0].split(":")[0].split() or [""]
+        if crate and not kind and os.path.isfile(f"crates/{crate}/src/lib.rt"):
             yield crate
 
 
