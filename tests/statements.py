@@ -340,7 +340,7 @@ def check_decided(where, function, code, theorem, path):
         return  # said already
     crate, module = code.split("/")[0], re.sub(r"^[^/]*/src/|\.rt$", "", code)
     steps = ([] if module == "lib" else module.split("/")) + function.split("::")
-    wanted = f"Rattle·{crate}·proofs.proofs.{'.'.join(steps)}.Reads"
+    wanted = f"Rattle.{crate}.proofs.{'.'.join(steps)}.Reads"
     said = re.search(r"Decides\w* .*?([^\s(]+)\.Post\b", "Decides" + source(path).types.get(theorem, "").partition("Decides")[2])
     alias = said and next((m[1] for line in source(path).lines if (m := re.fullmatch(rf"use (\S+) as {re.escape(said[1])}", line.strip()))), None)
     if alias != wanted:

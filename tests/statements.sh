@@ -52,12 +52,12 @@ broken() {
 }
 
 # names and files
-broken STATEMENTS.md '/^| 1.1 /s/`placeCount`/`placesCount`/' 'row 1.1: `placesCount`: not in table/specs/Places'
-broken STATEMENTS.md '/^| 1.11 /s,table/specs/Timers,table/specs/Status,' 'row 1.11: `timerTable`: not in table/specs/Status'
+broken STATEMENTS.md '/^| 1.1 /s/`place_count`/`places_count`/' 'row 1.1: `places_count`: not in table/specs/Places'
+broken STATEMENTS.md '/^| 1.11 /s,table/specs/Timers,table/specs/Status,' 'row 1.11: `timer_table`: not in table/specs/Status'
 broken STATEMENTS.md '/^| 1.11 /s,table/specs/Timers,table/specs/Timer,' 'row 1.11: table/specs/Timer: there is no such file'
-broken STATEMENTS.md '/^| 2.2 /s,`onlyNamed`\, step/specs/Promises,`onlyNamed`,' 'row 2.2: `onlyNamed`: no file'
+broken STATEMENTS.md '/^| 2.2 /s,`only_named`\, step/specs/Promises,`only_named`,' 'row 2.2: `only_named`: no file'
 broken STATEMENTS.md '/^| 1.7 /s/`Sound.fits`/`Sound.suits`/' 'row 1.7: `Sound.suits`: not in table/specs/Sound'
-broken STATEMENTS.md '/^| 2.8 /s/`turnOn LocalPickup`/`turnOn Pickup`/' 'row 2.8: `turnOn Pickup`: not in events/specs/Turn'
+broken STATEMENTS.md '/^| 2.8 /s/`turn_on LocalPickup`/`turn_on Pickup`/' 'row 2.8: `turn_on Pickup`: not in events/specs/Turn'
 broken STATEMENTS.md '/^| 6.2 /s/`TIMERS`/`CLOCKS`/' 'row 6.2: `CLOCKS`: not in table/src/timers.rt'
 broken STATEMENTS.md '/^| 1.6 /s/`State::number`/`Side::number`/' 'row 1.6: `Side::number`: not in table/src/lib.rt'
 broken STATEMENTS.md '/^| 1.11 /s/; it reads/,/' 'row 1.11: contract of `TIMERS`: in table/src/timers.rt it is no fn with an ensures'
@@ -71,7 +71,7 @@ broken STATEMENTS.md '/^| 2.1 /s/ the type |/ the type | - |/' 'row 2.1: 5 cells
 # public functions
 broken STATEMENTS.md '$d' '`step_at`, phones/src/parked.rt: a public function with no row'
 broken STATEMENTS.md '/^| 18.1 /s/`State::number`/`State::same`/' 'row 18.1: `State::same`, table/src/lib.rt: no pub fn of a library'
-broken STATEMENTS.md '/^| 18.1 /s/number-decided/of-decided/' 'row 18.1: `Decided.of-decided`, table/proofs/Unique: is not about'
+broken STATEMENTS.md '/^| 18.1 /s/number_decided/of_decided/' 'row 18.1: `Decided.of_decided`, table/proofs/Unique: is not about'
 # edits
 broken TRIED.md 's,must-fail `lamps/off_twice`,must-fail `lamps/off_thrice`,' 'must-fail `lamps/off_thrice`: there is no'
 broken TRIED.md 's,must-fail `lamps/off_twice`,tried,' 'off_twice.edit is named in neither paper'

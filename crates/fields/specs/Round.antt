@@ -42,7 +42,7 @@ ReadsBack =
     (longest : ℕ) (most values call : List ℕ) → Description most → Contents most values call → length (line_of most values call) ≤ longest
     → read_fields longest most (line_of most values call) ≡ says values call
 
--- `Written-Read`
+-- `written_read`
 abbrev pub WritesBack : Type 0
 WritesBack =
     (longest : ℕ) (most s values call : List ℕ) → Description most → read_fields longest most s ≡ says values call

@@ -51,6 +51,6 @@ ImageWritesBack = (s : List ℕ) → Octets s → is_sound_image s ≡ true → 
 abbrev pub PutsInImage : Type 0
 PutsInImage = (t : Table) → Fit t → (i : ℕ) → i < place_count → (r : Record) → length r.call ≡ call_octets → place_put i r (image_of t) ≡ image_of (put t i r)
 
--- `put-Fit`: and that table is as the types say
+-- `put_fit`: and that table is as the types say
 abbrev pub PutFits : Type 0
 PutFits = (t : Table) → Fit t → (i : ℕ) → i < place_count → (r : Record) → length r.call ≡ call_octets → Fit (put t i r)

@@ -52,7 +52,7 @@ call_in (x ∷ xs) = x.answer.call
 abbrev pub is_over_stay : List Act → Bool
 is_over_stay stay = is_over (state_after 0 stay)
 
--- `Each-on`: "each member has had exactly one On for every stay begun"
+-- `each_on`: "each member has had exactly one On for every stay begun"
 abbrev pub EachOn : Type 0
 EachOn = (f : List ℕ → Bool) (m : ℕ) → is_member m ≡ true → (xs : List Input) → sum (sent_to On f m) start xs ≡ count (λ stay. f (call_in stay)) (stays_in xs)
 

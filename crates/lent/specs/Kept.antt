@@ -47,7 +47,7 @@ abbrev pub EventLeavesStep : Type 0
 EventLeavesStep = (image : List ℕ) → Octets image → is_sound_image image ≡ true → (e : Event) → length e.call ≡ call_octets
     → event_image image e ≡ image_of (step_of (table_from image) e).table
 
--- `Line-kept`: the line at the image is the event that it says, octet by octet, or its refusal
+-- `line_kept`: the line at the image is the event that it says, octet by octet, or its refusal
 abbrev pub LineOctetByOctet : Type 0
 LineOctetByOctet = (image : List ℕ) → Octets image → is_sound_image image ≡ true → (line : List ℕ)
     → (cond ((read_line line).number == 0) (event_answer image (read_line line).event) (saying (read_line line).number NoMessage) ≡ (step_on image line).answer)
