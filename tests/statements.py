@@ -335,7 +335,7 @@ def check_functions(paper, rows):
 
 
 def check_decided(where, function, code, theorem, path):
-    """The theorem is about the contract of this function: `.. f.Post ..`, where f is `proofs.MODULE.TYPE.FUNCTION.Reads`."""
+    """The theorem is about the contract of this function: `.. f.Post ..`, where f is `Rattle.CRATE.proofs.MODULE.TYPE.FUNCTION.Reads`."""
     if not path or not os.path.isfile(path) or not source(path).declares(theorem):
         return  # said already
     crate, module = code.split("/")[0], re.sub(r"^[^/]*/src/|\.rt$", "", code)

@@ -37,7 +37,13 @@ fn answer_some(
     piece: &mut [u8],
     out: &mut [u8],
 ) -> io::Result<Turn> {
-    let n = input.read(piece)?;
+    let n = match input.read(piece) {
+        Ok(n) => n,
+        Err(e) => {
+            answer_last(rt, s)?;
+            return Err(e);
+        }
+    };
     if n == 0 {
         return Ok(Turn {
             ended: true,
@@ -61,8 +67,8 @@ fn answer_last(rt: &impl Print, s: Session) -> io::Result<()> {
     rt.write_all(&out[..count])
 }
 
-// Answers standard input to its end, from the empty table. A failed read or write ends it. A proved loop has to end, and nothing says that the
-// input does: the turns are numbers of which no run uses up the last.
+// Answers standard input to its end, from the empty table. A failed read counts as the end, and a failed write ends it at once; either error comes
+// back. A proved loop has to end, and nothing says that the input does: the turns are numbers of which no run uses up the last.
 pub fn answer_all(rt: &(impl Input + Print)) -> io::Result<()> {
     let mut s = Session::start();
     let mut piece = [0u8; PIECE_OCTETS];
