@@ -1,9 +1,9 @@
 .PHONY: test run example install bench runs
 
 PREFIX ?= /usr/local
-LIBRARY = crates/entry_c/out/libentry_c.a
-PROGRAM = crates/parkline/out/parkline
-LAMPLINE = crates/lampline/out/lampline
+LIBRARY = target/staticlib/libentry.a
+PROGRAM = target/bin/parkline
+LAMPLINE = target/bin/lampline
 
 # What Rattle compiles is for x86-64. On any other machine an emulator runs it, and C is compiled by a compiler for x86-64.
 ifneq ($(shell uname -m),x86_64)

@@ -1,5 +1,5 @@
 #!/usr/bin/env bash
-# What Rattle compiles, the programs and the library for C in crates/*/out, is for x86-64. On an x86-64 machine this file does nothing. On any other
+# What Rattle compiles, target/bin/* and target/staticlib/libentry.a, is for x86-64. On an x86-64 machine this file does nothing. On any other
 # it sees to what such programs need: an emulator that the kernel calls by itself (qemu, by binfmt_misc), the C library that they load, and
 # compilers of C and Rust for x86-64, which it names to make and cargo in the environment.
 #

@@ -1,12 +1,12 @@
 #!/usr/bin/env bash
-# usage: tests/echo.sh [PROGRAM]    (crates/echoline/out/echoline if none is named)
+# usage: tests/echo.sh [PROGRAM]    (target/bin/echoline if none is named)
 #
 # Lines that are read and written back, held to the outside vectors (tests/vectors): every answer line comes back octet for octet, and so does
 # every event line, but for those that the vectors' answers refuse by 21 to 24, of which that number comes back.
 set -euo pipefail
 cd "$(dirname "$0")/.."
 export LC_ALL=C
-program=${1:-crates/echoline/out/echoline}
+program=${1:-target/bin/echoline}
 
 bad=0 lines=0 refused=0
 hold() { # WHAT EXPECTED, with the lines on standard input

@@ -1,5 +1,5 @@
 #!/usr/bin/env bash
-# usage: tests/vectors.sh [PROGRAM]    (crates/parkline/out/parkline if none is named)
+# usage: tests/vectors.sh [PROGRAM]    (target/bin/parkline if none is named)
 #
 # Outside vectors: NAME.events is what the program reads, NAME.answers what it must print, octet for octet. An independent model made them, and
 # they are copied as they are (docs/DECISIONS.md, D-15).
@@ -9,7 +9,7 @@
 set -euo pipefail
 shopt -s nullglob
 cd "$(dirname "$0")/.."
-program=${1:-crates/parkline/out/parkline}
+program=${1:-target/bin/parkline}
 here=tests/vectors
 originals=${PARK_VECTORS:-}
 landed=(Q-4 Q-3 Q-1 base) # newest first

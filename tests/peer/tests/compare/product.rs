@@ -4,7 +4,7 @@
 use std::path::PathBuf;
 
 mod library {
-    #[link(name = "entry_c", kind = "static")]
+    #[link(name = "entry", kind = "static")]
     extern "C" {
         pub fn park_step(
             image: *mut u8,
@@ -34,16 +34,16 @@ pub fn park_bad_field(line: &[u8]) -> u8 {
 pub fn parkline() -> PathBuf {
     match std::env::var_os("PARKLINE") {
         Some(path) => PathBuf::from(path),
-        None => PathBuf::from(concat!(env!("CARGO_MANIFEST_DIR"), "/../../crates/parkline/out/parkline")),
+        None => PathBuf::from(concat!(env!("CARGO_MANIFEST_DIR"), "/../../target/bin/parkline")),
     }
 }
 
 /// The program that tries the lamps.
 pub fn lampline() -> PathBuf {
-    PathBuf::from(concat!(env!("CARGO_MANIFEST_DIR"), "/../../crates/lampline/out/lampline"))
+    PathBuf::from(concat!(env!("CARGO_MANIFEST_DIR"), "/../../target/bin/lampline"))
 }
 
 /// The program that tries the phones.
 pub fn phoneline() -> PathBuf {
-    PathBuf::from(concat!(env!("CARGO_MANIFEST_DIR"), "/../../crates/phoneline/out/phoneline"))
+    PathBuf::from(concat!(env!("CARGO_MANIFEST_DIR"), "/../../target/bin/phoneline"))
 }
