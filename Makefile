@@ -12,7 +12,7 @@ CC = x86_64-linux-gnu-gcc
 endif
 endif
 
-# the gate: C tests, comparisons, proofs from nothing, must-fail edits, programs
+# the gate: C tests, comparisons, proofs, must-fail edits, programs
 test:
 	.ci/run
 

@@ -280,12 +280,28 @@ def check_name(where, name, asked, path, written):
 # ---- public functions
 
 
-def libraries():
-    """Not the static library for C: its exports have the clauses of the functions that they call."""
+def libraries(kind=""):
+    """Those that Rattle crates stand on, or those of a kind: `staticlib` for C."""
     for line in lines_of("crates.txt"):
-        crate, *kind = line.split("#")[0].split(":")[0].split() or [""]
-        if crate and not kind and os.path.isfile(f"crates/{crate}/src/lib.rt"):
+        crate, *said = line.split("#")[0].split(":")[0].split() or [""]
+        if crate and " ".join(said) == kind and os.path.isfile(f"crates/{crate}/src/lib.rt"):
             yield crate
+
+
+def check_exports():
+    """What a static library exports has the parameters and clauses of the function that it calls, and does nothing else."""
+    form = re.compile(r"^pub (extern \"C\" )?fn (\w+)(\(.*\).*)\n((?:    (?:requires|ensures)\b.*\n)*)\{\n((?:.*\n)*?)\}$", re.M)
+    for crate in libraries("staticlib"):
+        path = f"crates/{crate}/src/lib.rt"
+        text = "\n".join(lines_of(path))
+        found = [m for m in form.finditer(text) if m[1]]
+        if len(found) != text.count("#[unsafe(no_mangle)]"):
+            find(path, "an export that is not of the form: parameters, clauses, a call")
+        for _, name, head, clauses, body in (m.groups() for m in found):
+            called = re.fullmatch(r"    (\w+)::(\w+)\((.*)\)\n", body)
+            inner = called and next((m for m in form.finditer("\n".join(lines_of(f"crates/{called[1]}/src/lib.rt"))) if m[2] == called[2]), None)
+            if not inner or (inner[3], inner[4]) != (head, clauses) or called[3].split(", ") != re.findall(r"(\w+): ", head):
+                find(path, f"`{name}`: not a call of a function with the same parameters and clauses")
 
 
 def exceptions():
@@ -412,6 +428,7 @@ def main():
     if not functions:
         find(statements, "no table with a column headed: function")
     public = check_functions(statements, functions)
+    check_exports()
     promises = check_promises()
 
     _, wrong, _ = tables(tried)

@@ -12,6 +12,7 @@
 #   must-fail `crate/edit` is a file, and every such file is named in one of the papers.
 #   Every pub fn of a library has a row in the table of public functions, or a line in docs/EXCEPTIONS.md, and asks nothing of its caller; its theorem
 #   is about its own contract; it has two wrong answers in TRIED.
+#   What a static library exports calls one function of a library, and has its parameters and its clauses.
 #   A statement of specs/ whose comment begins with a `name` is proved below proofs/ under that name.
 cd "$(dirname "$0")/.." || exit 2
 if [ "$1" != --try ]; then

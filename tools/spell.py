@@ -1,7 +1,7 @@
 #!/usr/bin/env python3
 """Brings the repository's own definitions and lemmas to one spelling: words in snake case, types and modules in camel case.
 
-usage: python3 tools/spell.py      once, at the top, in the tree that /opt/rattle/port/port.py has just turned
+usage: python3 tools/spell.py      once, at the top, in the tree that the kit's port.py has just turned
 
 A name of specs/ or proofs/ that had capitals or dashes inside gets underscores. A lemma that would then have a definition's name ends in `_lem`.
 Names from src/, names of the library, strings, inputs and outputs stay. The files below proofs/ that belong to one function keep the names that

@@ -14,14 +14,14 @@ use Rattle.lamps.specs.declared.members.Lamp.{Lamp}
 use Rattle.lamps.specs.Members.{timer_in, gp_of, is_member, dark_lamp, blank_lamp}
 use Rattle.lamps.specs.Served.{start}
 use Rattle.lamps.specs.Runs.{Input, endpoint_after, final}
-use Rattle.lamps.specs.Clause.{Member, Happens, is_asked_lem, replies, nothing, next, started_by, stopped_by, member_at, started_at, stopped_at, happens, clock_after, clock, TimersRun}
+use Rattle.lamps.specs.Clause.{Member, Happens, asked_to, replies, nothing, next, started_by, stopped_by, member_at, started_at, stopped_at, happens, clock_after, clock, TimersRun}
 use Rattle.lamps.proofs.Clause.{follows_clause}
 use Rattle.lamps.proofs.Along.{Good, full, good_after, good_start}
 
 -- the clock of a member shows the timer of its state, whatever happens to it
 ticks : (h : Happens) (x : Member) → clock_after (stopped_by h x) (started_by h) (timer_in x.gp) ≡ timer_in (next h x).gp
-ticks (is_asked_lem On call number) x = refl
-ticks (is_asked_lem Off call number) x = refl
+ticks (asked_to On call number) x = refl
+ticks (asked_to Off call number) x = refl
 ticks replies x = by x.gp
   where
     by : (g : Gp) → clock_after (timer_in g) 0 (timer_in g) ≡ 0

@@ -29,7 +29,7 @@ pub record Member : Type 0 where
 
 -- what happens to it: an Invoke is sent; a Return Result, Return Error or Reject comes, or the timer runs out; nothing
 pub data Happens : Type 0 where
-  is_asked_lem : Indication → List ℕ → ℕ → Happens
+  asked_to : Indication → List ℕ → ℕ → Happens
   replies : Happens
   nothing : Happens
 
@@ -37,18 +37,18 @@ pub data Happens : Type 0 where
 -- groupIndicationOn Return Result, Return Error or Reject APDU, the served endpoint shall stop timer T4 and shall return to GP-Idle state." Off the same,
 -- with GP-NotifyOffRequ and T5
 abbrev pub next : Happens → Member → Member
-next (is_asked_lem n call number) x = record { gp = awaits n; call = call; number = number }
+next (asked_to n call number) x = record { gp = awaits n; call = call; number = number }
 next replies x = record { gp = Idle; call = x.call; number = x.number }
 next nothing x = x
 
 abbrev pub started_by : Happens → ℕ
-started_by (is_asked_lem n call number) = timer_in (awaits n)
+started_by (asked_to n call number) = timer_in (awaits n)
 started_by replies = 0
 started_by nothing = 0
 
 -- a request stops the timer of the one that it replaces, if that is still pending
 abbrev pub stopped_by : Happens → Member → ℕ
-stopped_by (is_asked_lem n call number) x = timer_in x.gp
+stopped_by (asked_to n call number) x = timer_in x.gp
 stopped_by replies x = timer_in x.gp
 stopped_by nothing x = 0
 
@@ -64,7 +64,7 @@ member_at l i m = member_in (lamp_at l i) m
 -- what a notice does to a member at the place with index i
 abbrev pub asks_at : Notice → Asks → ℕ → Happens
 asks_at x NoOne i = nothing
-asks_at x (Each n) i = cond (x.place.0 == i + 1) (is_asked_lem n x.call x.invoke.0) nothing
+asks_at x (Each n) i = cond (x.place.0 == i + 1) (asked_to n x.call x.invoke.0) nothing
 
 -- a reply that is accepted is of this place and this member
 abbrev pub settles_at : Settlement → Reply → ℕ → ℕ → Bool

@@ -12,7 +12,7 @@
 // the table's error numbers.
 #![tactic(auto)]
 
-ghost use Rattle.std.specs.Prelude.{◌≤◌, length, IfOk};
+ghost use Rattle.std.specs.Prelude.{◌≤◌, length};
 
 use clauses::{
     Answer, Decision, ErrorValue, Failure, Message, Report, Timer, WireError, parked, parking,
@@ -505,31 +505,31 @@ fn take_all(rt: &impl Print, text: &[u8]) -> io::Result<()> {
     Ok(())
 }
 
-// Reads until the room is full or the input ends, and gives the count of octets that came. A proved loop has to end, and nothing says that the
-// input does: the turns are numbers of which no run uses up the last.
-fn read_full(input: &mut impl Read, room: &mut [u8]) -> io::Result<usize>
-    ensures { IfOk result (λ n. n ≤ length room.new) }
-{
+// Reads until the room is full or the input ends, and takes what came. A failed read counts as the end, and its error comes back. A proved loop
+// has to end, and nothing says that the input does: the turns are numbers of which no run uses up the last.
+fn take_input(rt: &impl Print, input: &mut impl Read, room: &mut [u8]) -> io::Result<()> {
     let mut done: usize = 0;
     for _ in 0..u64::MAX {
         if done == room.len() {
             break;
         }
-        let n = input.read(&mut room[done..])?;
-        if n == 0 {
-            break;
+        match input.read(&mut room[done..]) {
+            Ok(n) => {
+                if n == 0 {
+                    break;
+                }
+                done += n;
+            }
+            Err(e) => {
+                take_all(rt, &room[..done])?;
+                return Err(e);
+            }
         }
-        done += n;
     }
-    Ok(done)
-}
-
-fn take_input(rt: &(impl Input + Print), room: &mut [u8]) -> io::Result<()> {
-    let n = read_full(&mut rt.reader(), room)?;
-    take_all(rt, &room[..n])
+    take_all(rt, &room[..done])
 }
 
 fn main(rt: HostRuntime) -> io::Result<()> {
-    let mut input = [0u8; INPUT_OCTETS];
-    take_input(&rt, &mut input)
+    let mut room = [0u8; INPUT_OCTETS];
+    take_input(&rt, &mut rt.reader(), &mut room)
 }

@@ -1,18 +1,18 @@
 -- THE DEMAND, stay by stay, on one page: what is promised of every list of events from the empty table, with the ranks of document 02's Q-4. First
 -- the words of the demand, and beside each the statement that stands for it. The theorem is `rearranged`, and what follows a dot is a field of it.
 --
---   ("Rearranged stay by stay").stays: an arrangement of the accepted events of the run, which are numbered (Arranged.antt); what a
---                                                   stay is say `Ended` and `Running` below, .arranged .each-ended and .arranged .each-running
---   "Ended stays first, in order of their ends,     .arranged .by-ends: the numbers of their last events rise
---    then open stays in order of their starts"      .arranged .by-starts: the numbers of their first events rise
---   ("a stay's events keep their order").arranged.same-at: at each place the events stand in the order of the run
---                                                   .only: no other arrangement meets these words; .same-events: none is lost and none doubled
+--   "Rearranged stay by stay"                       .stays: an arrangement of the accepted events of the run, which are numbered (Arranged.antt); what a
+--                                                   stay is say `Ended` and `Running` below, .arranged .each_ended and .arranged .each_running
+--   "Ended stays first, in order of their ends,     .arranged .by_ends: the numbers of their last events rise
+--    then open stays in order of their starts"      .arranged .by_starts: the numbers of their first events rise
+--   "a stay's events keep their order"              .arranged .same_at: at each place the events stand in the order of the run
+--                                                   .only: no other arrangement meets these words; .same_events: none is lost and none doubled
 --   "every accepted event is accepted again         .again: the events as they were accepted, each with the call and the place of its answer (`by_answer`,
 --    with the same answer"                          ParkTable.antt), are accepted with the answers that they had,
 --   "and the final table is the same"               and lead from the empty table to the table of the run, ranks included
 --   "A pickup that asks by name there has           `choice_by_name`, ParkTable.antt: the pickups are told so
 --    choice 0"
---   ("in no stay are two pickup results accepted").one-result
+--   "in no stay are two pickup results accepted"    .one_result
 --
 -- Then what is promised beyond it: the same stays by a fold (`same_stays`) and what they are like (`each_stay`), who is told how a pickrequ came out
 -- (`tells_requester`), who is served first (`serves_first`). At the end two runs are worked out (`worked_out`, `own_events`). The theorems of this
