@@ -36,7 +36,7 @@ class Source:
 
     def __init__(self, path):
         self.path, self.lines = path, lines_of(path)
-        self.plain, self.parts, self.public, self.contracts, self.types = set(), set(), set(), {}, {}
+        self.plain, self.parts, self.public, self.conversions, self.contracts, self.types = set(), set(), set(), set(), {}, {}
         if path.endswith(".antt"):
             self.read_antt()
         elif path.endswith(".rt"):
@@ -77,6 +77,12 @@ class Source:
         owner = ""  # the type of the impl, or the struct or enum that is open
         kind = ""
         for i, line in enumerate(self.lines):
+            converts = re.match(r"impl From<(.+)> for (\w+) \{$", line)
+            if converts and any("from_gives" in said for said in self.lines[i:i + 3]):
+                name = f"{converts[2]}::from({converts[1]})"
+                self.parts.add(name)
+                self.conversions.add(name)
+                self.contracts[name] = {"ensures"}
             opened = re.match(r"(?:pub(?:\(crate\))? )?(impl|struct|enum) (\w+)", line)
             if opened:
                 kind, owner = opened[1], opened[2]
@@ -97,7 +103,7 @@ class Source:
                     self.contracts[name] = self.contract_from(i)
             elif kind == "struct" and (field := re.match(r"    (?:pub )?(\w+): ", line)):
                 self.parts.add(f"{owner}.{field[1]}")
-            elif kind == "enum" and (variant := re.match(r"    (\w+)[,(]", line)):
+            elif kind == "enum" and (variant := re.match(r"    (\w+)(?: = \d+)?[,(]", line)):
                 self.parts.add(f"{owner}::{variant[1]}")
 
     def contract_from(self, i):
@@ -319,6 +325,8 @@ def check_functions(paper, rows):
                 public[name, short(path)] = source(path).contracts[name]
                 if "requires" in source(path).contracts[name]:
                     find(path, f"`{name}`: a public function with a requires")
+            for name in source(path).conversions:
+                public[name, short(path)] = source(path).contracts[name]
     listed = set()
     for row in rows:
         where = f"{paper}:{row.line}: row {row.number}"
@@ -355,7 +363,7 @@ def check_decided(where, function, code, theorem, path):
     if not path or not os.path.isfile(path) or not source(path).declares(theorem):
         return  # said already
     crate, module = code.split("/")[0], re.sub(r"^[^/]*/src/|\.rt$", "", code)
-    steps = ([] if module == "lib" else module.split("/")) + function.split("::")
+    steps = ([] if module == "lib" else module.split("/")) + proved_as(function).split("::")
     wanted = f"Rattle.{crate}.proofs.{'.'.join(steps)}.Reads"
     said = re.search(r"Decides\w* .*?([^\s(]+)\.Post\b", "Decides" + source(path).types.get(theorem, "").partition("Decides")[2])
     alias = said and next((m[1] for line in source(path).lines if (m := re.fullmatch(rf"use (\S+) as {re.escape(said[1])}", line.strip()))), None)
@@ -364,6 +372,14 @@ def check_decided(where, function, code, theorem, path):
     record = theorem.rpartition(".")[0]
     if record and not any(source(path).types.get(name, "").strip() == record for name in source(path).public):
         find(where, f"`{theorem}`, {short(path)}: nothing in that file is a pub declaration of type {record}")
+
+
+def proved_as(function):
+    """What a proof calls a function: that of a conversion, as u8::from(State), is U8FromState::from."""
+    if not (conversion := re.fullmatch(r"(\w+)::from\((.+)\)", function)):
+        return function
+    words = re.findall(r"\w+", conversion[2])
+    return "".join(word[0].upper() + word[1:] for word in [conversion[1], "from", *words]) + "::from"
 
 
 def called(name, path, public):

@@ -6,11 +6,11 @@
 #   Rows are numbered in each section without a gap, and "as N.M" is a row.
 #   After the sentence each `name` has a file after it in its cell, and is declared there:
 #     in .antt  `name` a declaration, record, data or constructor; `Record.field`; `f clause ..` a clause of f that begins so
-#     in .rt    `name` a fn, struct, enum, const or type; `Type::name` one of an impl, or a variant; `Struct.field`
+#     in .rt    `name` a fn, struct, enum, const or type; `Type::name` one of an impl, or a variant; `Struct.field`; `u8::from(State)` an `impl From<State> for u8`
 #     in any other file the word.
 #   "contract of" stands before functions that have an ensures. Every path and every decision (D-1) is there.
 #   must-fail `crate/edit` is a file, and every such file is named in one of the papers.
-#   Every pub fn of a library has a row in the table of public functions, or a line in docs/EXCEPTIONS.md, and asks nothing of its caller; its theorem
+#   Every pub fn and every From of a library has a row in the table of public functions, or a line in docs/EXCEPTIONS.md, and asks nothing of its caller; its theorem
 #   is about its own contract; it has two wrong answers in TRIED.
 #   What a static library exports calls one function of a library, and has its parameters and its clauses.
 #   A statement of specs/ whose comment begins with a `name` is proved below proofs/ under that name.
@@ -60,7 +60,7 @@ broken STATEMENTS.md '/^| 2.2 /s,`only_named`\, step/specs/Promises,`only_named`
 broken STATEMENTS.md '/^| 1.7 /s/`Sound.fits`/`Sound.suits`/' 'row 1.7: `Sound.suits`: not in table/specs/Sound'
 broken STATEMENTS.md '/^| 2.8 /s/`turn_on LocalPickup`/`turn_on Pickup`/' 'row 2.8: `turn_on Pickup`: not in events/specs/Turn'
 broken STATEMENTS.md '/^| 6.2 /s/`TIMERS`/`CLOCKS`/' 'row 6.2: `CLOCKS`: not in table/src/timers.rt'
-broken STATEMENTS.md '/^| 1.6 /s/`State::number`/`Side::number`/' 'row 1.6: `Side::number`: not in table/src/lib.rt'
+broken STATEMENTS.md '/^| 1.6 /s/`u8::from(State)`/`u8::from(Side)`/' 'row 1.6: `u8::from(Side)`: not in table/src/lib.rt'
 broken STATEMENTS.md '/^| 1.11 /s/; it reads/,/' 'row 1.11: contract of `TIMERS`: in table/src/timers.rt it is no fn with an ensures'
 broken STATEMENTS.md '/^| 4.16 /s,vectors/refusals,vectors/refused,' 'row 4.16: tests/vectors/refused: there is no such file'
 broken STATEMENTS.md '/^| 14.1 /s/D-45/D-450/' 'row 14.1: D-450: not in docs/DECISIONS.md'
@@ -71,7 +71,7 @@ broken STATEMENTS.md '/^| 1.8 /s/as 1.7/as 1.77/' 'row 1.8: as 1.77: there is no
 broken STATEMENTS.md '/^| 2.1 /s/ the type |/ the type | - |/' 'row 2.1: 5 cells, and its table has 4'
 # public functions
 broken STATEMENTS.md '$d' '`step_at`, phones/src/parked.rt: a public function with no row'
-broken STATEMENTS.md '/^| 18.1 /s/`State::number`/`State::same`/' 'row 18.1: `State::same`, table/src/lib.rt: no pub fn of a library'
+broken STATEMENTS.md '/^| 18.1 /s/`u8::from(State)`/`State::same`/' 'row 18.1: `State::same`, table/src/lib.rt: no pub fn of a library'
 broken STATEMENTS.md '/^| 18.1 /s/number_decided/of_decided/' 'row 18.1: `Decided.of_decided`, table/proofs/Unique: is not about'
 # edits
 broken TRIED.md 's,must-fail `lamps/off_twice`,must-fail `lamps/off_thrice`,' 'must-fail `lamps/off_thrice`: there is no'

@@ -3,7 +3,7 @@ use mathlib.Core.Path.{refl}
 use mathlib.Core.Bool.{true}
 use mathlib.Core.List.{[], ◌∷◌}
 use Rattle.clauses.specs.declared.ErrorValue.{ErrorValue}
-use Rattle.clauses.specs.declared.Decision.TheVariants.{Accept}
+use Rattle.std.specs.Prelude.{Ok}
 use Rattle.clauses.specs.declared.parking.Event as at-parking
 use Rattle.clauses.specs.declared.parked.Event as at-parked
 use Rattle.clauses.specs.Park.{WorkedOut, SameValue, T10AsError, EachRuns}
@@ -20,6 +20,6 @@ t10_as_error = refl
 pub each_runs : EachRuns
 each_runs = record {
   t1 = ((at-parking.Event.ParkRequest true ∷ [], refl), (at-parking.Event.ExpiryT1, refl));
-  t2 = ((at-parked.Event.Request Accept ∷ [], refl), (at-parked.Event.ExpiryT2, refl));
-  t10 = ((at-parked.Event.RemotePickup Accept ∷ [], refl), (at-parked.Event.ExpiryT10, refl));
+  t2 = ((at-parked.Event.Request (Ok tt) ∷ [], refl), (at-parked.Event.ExpiryT2, refl));
+  t10 = ((at-parked.Event.RemotePickup (Ok tt) ∷ [], refl), (at-parked.Event.ExpiryT10, refl));
 }

@@ -1,26 +1,26 @@
 -- Clause 7.2 keeps the promises of a phone: row by row.
 use mathlib.Core.Path.{refl}
-use mathlib.Core.Logic.{inl, inr}
-use Rattle.clauses.specs.declared.Decision.TheVariants.{Accept, TurnDown}
+use Rattle.std.specs.Prelude.{Ok, Err}
+use Rattle.clauses.specs.declared.Timer.TheVariants.{T2, T10}
 use Rattle.clauses.specs.declared.parked.State.{State}
 use Rattle.clauses.specs.declared.parked.State.TheVariants.{CpIdle, CpSetupRequ, CpickupSetupInit}
 use Rattle.clauses.specs.declared.parked.Event.{Event}
 use Rattle.clauses.specs.declared.parked.Event.TheVariants.{Request, SetupResult, SetupError, PrimaryCleared, HeldCleared, LocalPickup, RemotePickup, ExecuteResult, ExecuteError, ExecuteErrorInRelease, PickerCleared, PlainConnect, ExpiryT2, ExpiryT10}
 use Rattle.clauses.specs.Phone.{Promises}
 use Rattle.clauses.specs.Parked.{parked}
-use Rattle.clauses.proofs.Rows.{Course, refused, done, Expiry, never, promises}
+use Rattle.clauses.proofs.Rows.{Course, refused, done, Expiry, no_expiry, expiry_of, never, promises}
 
 parked_course : (s : State) (e : Event) → Course parked s e
-parked_course CpIdle (Request Accept) = done refl refl refl
-parked_course CpIdle (Request (TurnDown x)) = done refl refl refl
+parked_course CpIdle (Request (Ok _)) = done refl refl refl
+parked_course CpIdle (Request (Err x)) = done refl refl refl
 parked_course CpIdle SetupResult = refused refl refl
 parked_course CpIdle (SetupError x) = refused refl refl
 parked_course CpIdle PrimaryCleared = refused refl refl
 parked_course CpIdle HeldCleared = done refl refl refl
-parked_course CpIdle (LocalPickup Accept) = done refl refl refl
-parked_course CpIdle (LocalPickup (TurnDown x)) = done refl refl refl
-parked_course CpIdle (RemotePickup Accept) = done refl refl refl
-parked_course CpIdle (RemotePickup (TurnDown x)) = done refl refl refl
+parked_course CpIdle (LocalPickup (Ok _)) = done refl refl refl
+parked_course CpIdle (LocalPickup (Err x)) = done refl refl refl
+parked_course CpIdle (RemotePickup (Ok _)) = done refl refl refl
+parked_course CpIdle (RemotePickup (Err x)) = done refl refl refl
 parked_course CpIdle ExecuteResult = refused refl refl
 parked_course CpIdle (ExecuteError x) = refused refl refl
 parked_course CpIdle (ExecuteErrorInRelease x) = refused refl refl
@@ -58,24 +58,24 @@ parked_course CpickupSetupInit ExpiryT2 = refused refl refl
 parked_course CpickupSetupInit ExpiryT10 = done refl refl refl
 
 parked_expires : (s : State) (e : Event) → Expiry parked s e
-parked_expires s (Request d) = inl refl
-parked_expires s SetupResult = inl refl
-parked_expires s (SetupError x) = inl refl
-parked_expires s PrimaryCleared = inl refl
-parked_expires s HeldCleared = inl refl
-parked_expires s (LocalPickup d) = inl refl
-parked_expires s (RemotePickup d) = inl refl
-parked_expires s ExecuteResult = inl refl
-parked_expires s (ExecuteError x) = inl refl
-parked_expires s (ExecuteErrorInRelease x) = inl refl
-parked_expires s PickerCleared = inl refl
-parked_expires s PlainConnect = inl refl
-parked_expires CpIdle ExpiryT2 = inr (refl, never)
-parked_expires CpSetupRequ ExpiryT2 = inr (refl, λ h. refl)
-parked_expires CpickupSetupInit ExpiryT2 = inr (refl, never)
-parked_expires CpIdle ExpiryT10 = inr (refl, never)
-parked_expires CpSetupRequ ExpiryT10 = inr (refl, never)
-parked_expires CpickupSetupInit ExpiryT10 = inr (refl, λ h. refl)
+parked_expires s (Request d) = no_expiry refl
+parked_expires s SetupResult = no_expiry refl
+parked_expires s (SetupError x) = no_expiry refl
+parked_expires s PrimaryCleared = no_expiry refl
+parked_expires s HeldCleared = no_expiry refl
+parked_expires s (LocalPickup d) = no_expiry refl
+parked_expires s (RemotePickup d) = no_expiry refl
+parked_expires s ExecuteResult = no_expiry refl
+parked_expires s (ExecuteError x) = no_expiry refl
+parked_expires s (ExecuteErrorInRelease x) = no_expiry refl
+parked_expires s PickerCleared = no_expiry refl
+parked_expires s PlainConnect = no_expiry refl
+parked_expires CpIdle ExpiryT2 = expiry_of T2 refl refl never
+parked_expires CpSetupRequ ExpiryT2 = expiry_of T2 refl refl (λ h. refl)
+parked_expires CpickupSetupInit ExpiryT2 = expiry_of T2 refl refl never
+parked_expires CpIdle ExpiryT10 = expiry_of T10 refl refl never
+parked_expires CpSetupRequ ExpiryT10 = expiry_of T10 refl refl never
+parked_expires CpickupSetupInit ExpiryT10 = expiry_of T10 refl refl (λ h. refl)
 
 pub parked_keeps : Promises parked
 parked_keeps = promises parked refl parked_course parked_expires

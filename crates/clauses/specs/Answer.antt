@@ -1,17 +1,15 @@
--- Error values, the numbers of the timers, and the five sorts of answer that the clause tables of the phones are written with.
-use Rattle.std.specs.Prelude.{cond, ℕ, eqb}
+-- Error values, the numbers of the timers, the four sorts of answer that the clause tables of the phones are written with, and what a line of them gives.
+use Rattle.std.specs.Prelude.{cond, ℕ, eqb, Option, Some, None, Ok, Err}
 use Rattle.clauses.specs.declared.ErrorValue.{ErrorValue}
-use Rattle.clauses.specs.declared.WireError.{WireError}
-use Rattle.clauses.specs.declared.WireError.TheVariants.{NoError, Is}
 use Rattle.clauses.specs.declared.Failure.{Failure}
 use Rattle.clauses.specs.declared.Failure.TheVariants.{ReturnError, Reject}
 use Rattle.clauses.specs.declared.Timer.{Timer}
-use Rattle.clauses.specs.declared.Timer.TheVariants.{NoTimer, T1, T2, T10}
+use Rattle.clauses.specs.declared.Timer.TheVariants.{T1, T2, T10}
 use Rattle.clauses.specs.declared.Message.{Message}
-use Rattle.clauses.specs.declared.Message.TheVariants.{NoMessage}
 use Rattle.clauses.specs.declared.Report.{Report}
-use Rattle.clauses.specs.declared.Report.TheVariants.{Quiet}
 use Rattle.clauses.specs.declared.Answer.{Answer}
+use Rattle.clauses.specs.declared.NoStep.{NoStep}
+use Rattle.clauses.specs.declared.Step.{Step}
 
 -- clause 11: callAlreadyPickedUp has the code 2001
 abbrev pub call_already_picked_up : ErrorValue
@@ -22,8 +20,8 @@ abbrev pub undefined : ErrorValue
 undefined = record { 0 = 2002 }
 
 -- document 01, "Errors (house numbers): 0 none, 1 undefined, 2 callAlreadyPickedUp". Every other number is no error, as 0 is.
-abbrev pub wire_error : ℕ → WireError
-wire_error number = cond (eqb number 1) (Is undefined) (cond (eqb number 2) (Is call_already_picked_up) NoError)
+abbrev pub wire_error : ℕ → Option ErrorValue
+wire_error number = cond (eqb number 1) (Some undefined) (cond (eqb number 2) (Some call_already_picked_up) None)
 
 -- the value of a Return Error is the one that came; house: a Reject, which has none, has undefined
 abbrev pub value_of : Failure → ErrorValue
@@ -32,32 +30,38 @@ value_of Reject = undefined
 
 -- the number of a timer in clause 10.4
 abbrev pub timer_number : Timer → ℕ
-timer_number NoTimer = 0
 timer_number T1 = 1
 timer_number T2 = 2
 timer_number T10 = 10
 
--- something is begun: two messages or one, and the timer that starts
-abbrev pub begun : Message → Message → Timer → Answer
-begun first second timer =
-    record { number = 0; first = first; second = second; report = Quiet; started = timer; stopped = NoTimer }
+-- something is begun: a message and maybe a second one, and the timer that starts
+abbrev pub begun : Message → Option Message → Timer → Answer
+begun first second timer = record { first = Some first; second = second; report = None; started = Some timer; stopped = None }
 
 -- a message, or none
-abbrev pub replied : Message → Answer
-replied first =
-    record { number = 0; first = first; second = NoMessage; report = Quiet; started = NoTimer; stopped = NoTimer }
+abbrev pub replied : Option Message → Answer
+replied first = record { first = first; second = None; report = None; started = None; stopped = None }
 
 -- a word to the user
 abbrev pub told : Report → Answer
-told report =
-    record { number = 0; first = NoMessage; second = NoMessage; report = report; started = NoTimer; stopped = NoTimer }
+told report = record { first = None; second = None; report = Some report; started = None; stopped = None }
 
--- what was begun is over: a message or none, what the user is told, and the timer that stops
-abbrev pub ended : Message → Report → Timer → Answer
-ended first report timer =
-    record { number = 0; first = first; second = NoMessage; report = report; started = NoTimer; stopped = timer }
+-- what was begun is over: a message or none, what the user is told if anything, and the timer that stops
+abbrev pub ended : Option Message → Option Report → Timer → Answer
+ended first report timer = record { first = first; second = None; report = report; started = None; stopped = Some timer }
 
--- document 02, Q-7, "33 the clause names no step for that event in that state": nothing is sent, started, stopped or told
-abbrev pub refusal : Answer
-refusal =
-    record { number = 33; first = NoMessage; second = NoMessage; report = Quiet; started = NoTimer; stopped = NoTimer }
+-- the state after the event, and the answer
+abbrev pub to : {S : Type 0} → S → Answer → Step S
+to s a = record { state = s; answer = Ok a }
+
+-- the refusal
+abbrev pub refusal : NoStep
+refusal = record {}
+
+-- document 02, Q-7, "33 the clause names no step for that event in that state"
+abbrev pub no_step_number : ℕ
+no_step_number = 33
+
+-- there the state stays, and there is no answer: nothing is sent, started, stopped or told
+abbrev pub no_step : {S : Type 0} → S → Step S
+no_step s = record { state = s; answer = Err refusal }

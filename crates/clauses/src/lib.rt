@@ -7,51 +7,43 @@ pub mod parked;
 pub mod parking;
 
 ghost use Rattle.std.specs.Prelude.{◌≡◌};
-ghost use Rattle.clauses.specs.Answer.{wire_error, value_of, timer_number};
+ghost use Rattle.clauses.specs.Answer.{wire_error, value_of, timer_number, no_step_number};
+
+use std::fmt;
 
 // An error as it stands on the wire. Clause 11 has 2000 for callPickupIdInvalid, 2001 for callAlreadyPickedUp, 2002 for undefined; every other value
 // is handed on as it comes.
-#[derive(Clone, Copy)]
+#[derive(Clone, Copy, PartialEq, Eq, Debug)]
 pub struct ErrorValue(pub u16);
 
-pub const CALL_ALREADY_PICKED_UP: u16 = 2001;
+impl ErrorValue {
+    pub const CALL_ALREADY_PICKED_UP: ErrorValue = ErrorValue(2001);
 
-pub const UNDEFINED: u16 = 2002;
-
-// The error of one of the table's answers, on the wire.
-#[derive(Clone, Copy)]
-pub enum WireError {
-    NoError,
-    Is(ErrorValue),
+    pub const UNDEFINED: ErrorValue = ErrorValue(2002);
 }
 
-// How an operation failed: a Return Error has a value, a Reject has none.
-#[derive(Clone, Copy)]
+// How an operation failed: a Return Error has a value, a Reject has none. It is no Option, since a Reject is an APDU that came, and not the want of
+// one.
+#[derive(Clone, Copy, PartialEq, Eq, Debug)]
 pub enum Failure {
     ReturnError(ErrorValue),
     Reject,
 }
 
 // Whether the endpoint takes part in what it is asked for, and the error value if it does not.
-#[derive(Clone, Copy)]
-pub enum Decision {
-    Accept,
-    TurnDown(ErrorValue),
-}
+pub type Decision = Result<(), ErrorValue>;
 
-// A timer of clause 10.4, or none.
-#[derive(Clone, Copy)]
+// A timer of clause 10.4.
+#[derive(Clone, Copy, PartialEq, Eq, Debug)]
 pub enum Timer {
-    NoTimer,
     T1,
     T2,
     T10,
 }
 
 // What an endpoint sends. The held call is the parked one, to the parked-to endpoint.
-#[derive(Clone, Copy)]
+#[derive(Clone, Copy, PartialEq, Eq, Debug)]
 pub enum Message {
-    NoMessage,
     // FACILITY with cpRequest Invoke, on the primary call
     RequestInvoke,
     // RELEASE COMPLETE with cpRequest Return Result, on the primary call
@@ -75,35 +67,44 @@ pub enum Message {
 }
 
 // What the local user is told.
-#[derive(Clone, Copy)]
+#[derive(Clone, Copy, PartialEq, Eq, Debug)]
 pub enum Report {
-    Quiet,
     // the endpoint itself turned the user's request down: no error came
     Rejected,
     Succeeded,
     Failed(ErrorValue),
 }
 
-#[derive(Clone, Copy)]
+// What a step has the host do. By default it is nothing.
+#[derive(Clone, Copy, PartialEq, Eq, Debug, Default)]
 pub struct Answer {
-    // 0, or the refusal 33
-    pub number: u8,
     // the messages, in the order in which they are sent
-    pub first: Message,
-    pub second: Message,
-    pub report: Report,
-    pub started: Timer,
-    pub stopped: Timer,
+    pub first: Option<Message>,
+    pub second: Option<Message>,
+    pub report: Option<Report>,
+    pub started: Option<Timer>,
+    pub stopped: Option<Timer>,
+}
+
+// The refusal 33: the clause names no step for the event in the state.
+#[derive(Clone, Copy, PartialEq, Eq, Debug)]
+pub struct NoStep;
+
+// The state after an event, and the answer. Where there is none the state is the one before.
+#[derive(Clone, Copy, PartialEq, Eq, Debug)]
+pub struct Step<S> {
+    pub state: S,
+    pub answer: Result<Answer, NoStep>,
 }
 
 // The wire's value of a house number of the table's errors (document 01).
-pub fn wire_error(number: u8) -> WireError
+pub fn wire_error(number: u8) -> Option<ErrorValue>
     ensures { result ≡ wire_error number }
 {
     match number {
-        1 => WireError::Is(ErrorValue(UNDEFINED)),
-        2 => WireError::Is(ErrorValue(CALL_ALREADY_PICKED_UP)),
-        _ => WireError::NoError,
+        1 => Some(ErrorValue::UNDEFINED),
+        2 => Some(ErrorValue::CALL_ALREADY_PICKED_UP),
+        _ => None,
     }
 }
 
@@ -114,21 +115,28 @@ impl Failure {
     {
         match self {
             Failure::ReturnError(x) => x,
-            Failure::Reject => ErrorValue(UNDEFINED),
+            Failure::Reject => ErrorValue::UNDEFINED,
         }
     }
 }
 
-impl Timer {
-    // Its number in clause 10.4, or 0 for none.
-    pub fn number(self) -> u8
-        ensures { result ≡ timer_number self }
-    {
-        match self {
-            Timer::NoTimer => 0,
+// Its number in clause 10.4.
+impl From<Timer> for u8 {
+    ghost from_gives = { λ t n. n ≡ timer_number t };
+
+    fn from(timer: Timer) -> u8 {
+        match timer {
             Timer::T1 => 1,
             Timer::T2 => 2,
             Timer::T10 => 10,
         }
+    }
+}
+
+impl From<NoStep> for u8 {
+    ghost from_gives = { λ _ n. n ≡ no_step_number };
+
+    fn from(_refused: NoStep) -> u8 {
+        33
     }
 }

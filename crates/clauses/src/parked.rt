@@ -1,17 +1,17 @@
 // The parked endpoint (clause 7.2): another endpoint has it park its call, and T2 runs until it is known how that came out. When the parked call is
 // picked up from elsewhere it sets up a new call to the picking-up endpoint, and T10 runs until that is answered.
 
-use crate::{Answer, Decision, Failure};
+use crate::{Decision, Failure};
 
 // The states of clause 10.3.2.
-#[derive(Clone, Copy)]
+#[derive(Clone, Copy, PartialEq, Eq, Debug)]
 pub enum State {
     CpIdle,
     CpSetupRequ,
     CpickupSetupInit,
 }
 
-#[derive(Clone, Copy)]
+#[derive(Clone, Copy, PartialEq, Eq, Debug)]
 pub enum Event {
     // cpRequest Invoke, on the primary call
     Request(Decision),
@@ -39,11 +39,4 @@ pub enum Event {
     PlainConnect,
     ExpiryT2,
     ExpiryT10,
-}
-
-// The state after an event, and the answer.
-#[derive(Clone, Copy)]
-pub struct Step {
-    pub state: State,
-    pub answer: Answer,
 }

@@ -1,15 +1,15 @@
 // The parking endpoint (clause 7.1): its user parks a call at another endpoint, and T1 runs until it is known how that came out.
 
-use crate::{Answer, Failure};
+use crate::Failure;
 
 // The states of clause 10.3.1.
-#[derive(Clone, Copy)]
+#[derive(Clone, Copy, PartialEq, Eq, Debug)]
 pub enum State {
     CpIdle,
     CpRequested,
 }
 
-#[derive(Clone, Copy)]
+#[derive(Clone, Copy, PartialEq, Eq, Debug)]
 pub enum Event {
     // the user asks to park; does the endpoint accept that
     ParkRequest(bool),
@@ -20,11 +20,4 @@ pub enum Event {
     // the primary call is cleared, with no cpRequest Return Result, Return Error or Reject
     PrimaryCleared,
     ExpiryT1,
-}
-
-// The state after an event, and the answer.
-#[derive(Clone, Copy)]
-pub struct Step {
-    pub state: State,
-    pub answer: Answer,
 }

@@ -2,8 +2,6 @@
 // out in blocks. No contract can say what is read or written; what is answered to what is `lent::session`'s.
 #![tactic(auto)]
 
-ghost use Rattle.std.specs.Prelude.{◌≤◌, length};
-
 use lent::session;
 use lent::session::Session;
 use std::io;
@@ -14,29 +12,15 @@ const PIECE_OCTETS: usize = 16384;
 
 const ANSWERS_OCTETS: usize = PIECE_OCTETS * lines::ANSWER_ROOM;
 
-// What one read came to, and the session after it.
-#[derive(Clone, Copy)]
-struct Turn {
-    ended: bool,
-    session: Session,
-}
-
-// A count of octets that the buffer has.
-fn within(n: usize, buf: &[u8]) -> usize
-    ensures { result ≤ length buf.now }
-{
-    if n < buf.len() { n } else { buf.len() }
-}
-
-// Reads once, and writes what is answered to it. The buffer has room for an answer for each octet of the piece, so that all
-// answers fit.
+// Reads once, and writes what is answered to it. Gives the session after it, or none once the input has ended. The buffer has room for an answer for
+// each octet of the piece, so that the session takes it.
 fn answer_some(
     rt: &impl Print,
     input: &mut impl Read,
     s: Session,
     piece: &mut [u8],
     out: &mut [u8],
-) -> io::Result<Turn> {
+) -> io::Result<Option<Session>> {
     let n = match input.read(piece) {
         Ok(n) => n,
         Err(e) => {
@@ -45,26 +29,20 @@ fn answer_some(
         }
     };
     if n == 0 {
-        return Ok(Turn {
-            ended: true,
-            session: s,
-        });
+        return Ok(None);
     }
-    let fed = session::feed(s, &piece[..n], out);
-    let next = fed.session;
-    let count = within(fed.written, out);
-    rt.write_all(&out[..count])?;
-    Ok(Turn {
-        ended: false,
-        session: next,
-    })
+    let Ok(fed) = session::feed(s, &piece[..n], out) else {
+        return Ok(Some(s));
+    };
+    rt.write_all(&out[..fed.written.min(out.len())])?;
+    Ok(Some(fed.session))
 }
 
 // Answers a last line that lacks its feed.
 fn answer_last(rt: &impl Print, s: Session) -> io::Result<()> {
     let mut out = [0u8; lines::ANSWER_ROOM];
-    let count = within(session::finish(s, &mut out), &out);
-    rt.write_all(&out[..count])
+    let written = session::finish(s, &mut out);
+    rt.write_all(&out[..written.min(out.len())])
 }
 
 // Answers standard input to its end, from the empty table. A failed read counts as the end, and a failed write ends it at once; either error comes
@@ -75,11 +53,10 @@ pub fn answer_all(rt: &(impl Input + Print)) -> io::Result<()> {
     let mut out = [0u8; ANSWERS_OCTETS];
     let mut input = rt.reader();
     for _ in 0..u64::MAX {
-        let t = answer_some(rt, &mut input, s, &mut piece, &mut out)?;
-        s = t.session;
-        if t.ended {
+        let Some(next) = answer_some(rt, &mut input, s, &mut piece, &mut out)? else {
             return answer_last(rt, s);
-        }
+        };
+        s = next;
     }
     Ok(())
 }

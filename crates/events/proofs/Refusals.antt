@@ -5,11 +5,12 @@ use Rattle.laws.proofs.Bools.{never}
 use Rattle.table.specs.declared.Connection.{Connection}
 use Rattle.table.specs.declared.State.TheVariants.{Free, ParkWaiting, LineWaiting, Requested, RemoteRequested, HandedOver}
 use Rattle.table.specs.declared.Side.TheVariants.{Position, Line}
+use Rattle.std.specs.Prelude.{Option, Some, None}
 use Rattle.events.specs.declared.rule.Rule.{Rule}
-use Rattle.events.specs.declared.rule.Rule.TheVariants.{Start, On, Unknown}
+use Rattle.events.specs.declared.rule.Rule.TheVariants.{Start, On}
 use Rattle.events.specs.declared.rule.Signal.TheVariants.{LocalPickup, PickRequest, PickupResult, PickupError, ErrorInRelease, Release, Answered, Expiry}
 use Rattle.events.specs.declared.message.Message.{Message}
-use Rattle.events.specs.declared.message.Message.TheVariants.{NoMessage, ParkError, PickError}
+use Rattle.events.specs.declared.message.Message.TheVariants.{ParkError, PickError}
 use Rattle.events.specs.declared.message.ErrorValue.{ErrorValue}
 use Rattle.events.specs.declared.refusal.Refusal.{Refusal}
 use Rattle.events.specs.declared.refusal.Refusal.TheVariants.{UnknownKind, ChoiceOrTimer, CallHeld, SideFull, CallNotHeld, NothingWaits, PickupHere, PickupElsewhere, CallHandedOver, StateUnfit, NotOutstanding, TimerNotRunning, TableUnsound}
@@ -44,13 +45,13 @@ refused_not_0 w h = omega (arith, (numbered w).from)
 -- ---- what goes out
 
 -- nothing, or an error to whoever parks or asks from elsewhere
-pub data Tells (c : Connection) : Rule → Message → Type 0 where
-  nothing : {k : Rule} → Tells c k NoMessage
-  parker : Tells c (Start Position) ParkError
-  picker : (x : ErrorValue) → Tells c (On PickRequest) (PickError c x)
+pub data Tells (c : Connection) : Option Rule → Option Message → Type 0 where
+  nothing : {k : Option Rule} → Tells c k None
+  parker : Tells c (Some (Start Position)) (Some ParkError)
+  picker : (x : ErrorValue) → Tells c (Some (On PickRequest)) (Some (PickError c x))
 
 module _ (c : Connection) where
-  tells_parker : (w : Refusal) → Tells c (Start Position) (park_refused w)
+  tells_parker : (w : Refusal) → Tells c (Some (Start Position)) (park_refused w)
   tells_parker UnknownKind = nothing
   tells_parker ChoiceOrTimer = nothing
   tells_parker CallHeld = parker
@@ -65,7 +66,7 @@ module _ (c : Connection) where
   tells_parker TimerNotRunning = nothing
   tells_parker TableUnsound = nothing
 
-  tells_picker : (w : Refusal) → Tells c (On PickRequest) (pick_request_refused w c)
+  tells_picker : (w : Refusal) → Tells c (Some (On PickRequest)) (pick_request_refused w c)
   tells_picker UnknownKind = nothing
   tells_picker ChoiceOrTimer = picker _
   tells_picker CallHeld = nothing
@@ -80,18 +81,18 @@ module _ (c : Connection) where
   tells_picker TimerNotRunning = nothing
   tells_picker TableUnsound = nothing
 
-  pub tells : (k : Rule) (w : Refusal) → Tells c k (refusal_message k w c)
-  tells (Start Position) w = tells_parker w
-  tells (Start Line) w = nothing
-  tells (On LocalPickup) w = nothing
-  tells (On PickRequest) w = tells_picker w
-  tells (On PickupResult) w = nothing
-  tells (On PickupError) w = nothing
-  tells (On ErrorInRelease) w = nothing
-  tells (On Release) w = nothing
-  tells (On Answered) w = nothing
-  tells (On Expiry) w = nothing
-  tells Unknown w = nothing
+  pub tells : (k : Option Rule) (w : Refusal) → Tells c k (refusal_message k w c)
+  tells (Some (Start Position)) w = tells_parker w
+  tells (Some (Start Line)) w = nothing
+  tells (Some (On LocalPickup)) w = nothing
+  tells (Some (On PickRequest)) w = tells_picker w
+  tells (Some (On PickupResult)) w = nothing
+  tells (Some (On PickupError)) w = nothing
+  tells (Some (On ErrorInRelease)) w = nothing
+  tells (Some (On Release)) w = nothing
+  tells (Some (On Answered)) w = nothing
+  tells (Some (On Expiry)) w = nothing
+  tells None w = nothing
 
 -- ---- a call that is taken
 

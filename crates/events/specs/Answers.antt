@@ -1,20 +1,19 @@
 -- The answers: to an event that is done, and to one that is refused (document 01, "Refusal numbers", and of "Lines, image, status" the answer
 -- line's fields; document 02, Q-1: "An answer therefore holds up to two messages.").
-use Rattle.std.specs.Prelude.{ℕ, List}
+use Rattle.std.specs.Prelude.{ℕ, List, Option, None}
 use Rattle.table.specs.declared.State.{State}
 use Rattle.table.specs.Places.{state_number, no_place, place_at, side_at, no_call}
 use Rattle.table.specs.Timers.{started_set, stopped_set}
 use Rattle.events.specs.declared.Event.{Event}
 use Rattle.events.specs.declared.Answer.{Answer}
 use Rattle.events.specs.declared.message.Message.{Message}
-use Rattle.events.specs.declared.message.Message.TheVariants.{NoMessage}
 use Rattle.events.specs.declared.refusal.Refusal.{Refusal}
 use Rattle.events.specs.Rule.{rule_of}
 use Rattle.events.specs.Message.{sent}
 use Rattle.events.specs.Refusal.{refusal_number, refusal_message}
 
 -- "An accepted event's call and place are those of its stay, freed or not."
-abbrev pub accepted : ℕ → State → State → List ℕ → Message → Message → Answer
+abbrev pub accepted : ℕ → State → State → List ℕ → Option Message → Option Message → Answer
 accepted i before after call first second = record {
   number = 0;
   call = call;
@@ -27,7 +26,7 @@ accepted i before after call first second = record {
 }
 
 -- "The answer then has zeros everywhere but its number, except: .."
-abbrev pub saying : ℕ → Message → Answer
+abbrev pub saying : ℕ → Option Message → Answer
 saying number m = record {
   number = number;
   call = no_call;
@@ -36,7 +35,7 @@ saying number m = record {
   first = sent m;
   started = 0;
   stopped = 0;
-  second = sent NoMessage;
+  second = sent None;
 }
 
 -- to an event that is refused

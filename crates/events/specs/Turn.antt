@@ -1,7 +1,7 @@
--- What an event does at one place (document 01, "Events"; document 02, Q-1; H.450.5, 7.3 and 7.5). The outcome says only what changes: a refusal,
--- the end of the stay, or the stage that the call is now at with its count. So a freed record is all zeros, a call stays the
+-- What an event does at one place (document 01, "Events"; document 02, Q-1; H.450.5, 7.3 and 7.5): it is refused, or has an outcome. That says only
+-- what changes: the end of the stay, or the stage that the call is now at with its count. So a freed record is all zeros, a call stays the
 -- same, an occupied place stays occupied, and only state 4 has a connection, all by construction.
-use Rattle.std.specs.Prelude.{ℕ, ◌+◌, ◌/◌, ◌%◌, ◌^◌, Bool, true, false, cond, List, ◌==◌}
+use Rattle.std.specs.Prelude.{ℕ, ◌+◌, ◌/◌, ◌%◌, ◌^◌, Bool, true, false, cond, Option, Some, None, Result, Ok, Err, List, ◌==◌}
 use Rattle.table.specs.declared.Connection.{Connection}
 use Rattle.table.specs.declared.Invoke.{Invoke}
 use Rattle.table.specs.declared.State.{State}
@@ -13,17 +13,18 @@ use Rattle.table.specs.Places.{is_free, waiting_on, no_connection, no_invoke}
 use Rattle.table.specs.Timers.{timer_set}
 use Rattle.events.specs.declared.Event.{Event}
 use Rattle.events.specs.declared.rule.Rule.{Rule}
-use Rattle.events.specs.declared.rule.Rule.TheVariants.{Start, On, Unknown}
+use Rattle.events.specs.declared.rule.Rule.TheVariants.{Start, On}
 use Rattle.events.specs.declared.rule.Signal.{Signal}
 use Rattle.events.specs.declared.rule.Signal.TheVariants.{LocalPickup, PickRequest, PickupResult, PickupError, ErrorInRelease, Release, Answered, Expiry}
 use Rattle.events.specs.declared.message.Message.{Message}
-use Rattle.events.specs.declared.message.Message.TheVariants.{NoMessage, ParkResult, Connect, Facility, PickResult, PickError, ReleaseComplete}
+use Rattle.events.specs.declared.message.Message.TheVariants.{ParkResult, Connect, Facility, PickResult, PickError, ReleaseComplete}
 use Rattle.events.specs.declared.message.ErrorValue.TheVariants.{Undefined}
+use Rattle.events.specs.declared.refusal.Refusal.{Refusal}
 use Rattle.events.specs.declared.refusal.Refusal.TheVariants.{UnknownKind, CallNotHeld, PickupHere, PickupElsewhere, CallHandedOver, StateUnfit, NotOutstanding, TimerNotRunning}
 use Rattle.events.specs.declared.turn.Stage.{Stage}
 use Rattle.events.specs.declared.turn.Stage.TheVariants.{Waits, AskedHere, AskedFrom, Taken}
 use Rattle.events.specs.declared.turn.Outcome.{Outcome}
-use Rattle.events.specs.declared.turn.Outcome.TheVariants.{Refused, Freed, Becomes}
+use Rattle.events.specs.declared.turn.Outcome.TheVariants.{Freed, Becomes}
 
 -- ---- a held call's stage, and its record
 
@@ -58,69 +59,69 @@ held_record a s call n = record { state = state_at a s; call = call; connection 
 -- ---- the ten kinds
 
 -- kinds 1 and 2: "To state 1. Message 1." "To state 2. No message."
-abbrev pub greeting : Side → Message
-greeting Position = ParkResult
-greeting Line = NoMessage
+abbrev pub greeting : Side → Option Message
+greeting Position = Some ParkResult
+greeting Line = None
 
 -- "Count up by one"; "after 65,535 comes 0"
 abbrev pub up : Invoke → Invoke
 up n = record { 0 = (n.0 + 1) % 2 ^ 16 }
 
 -- kinds 3 and 4: a waiting call goes to the stage given. Q-3: "Keep 7 for state 3, and use 11 for state 4 and 12 for state 5."
-abbrev pub picked_up : Stage → Stage → Invoke → Message → Outcome
-picked_up Waits to n m = Becomes to n m
-picked_up AskedHere to n m = Refused PickupHere
-picked_up (AskedFrom c) to n m = Refused PickupElsewhere
-picked_up Taken to n m = Refused CallHandedOver
+abbrev pub picked_up : Stage → Stage → Invoke → Option Message → Result Outcome Refusal
+picked_up Waits to n m = Ok (Becomes to n m)
+picked_up AskedHere to n m = Err PickupHere
+picked_up (AskedFrom c) to n m = Err PickupElsewhere
+picked_up Taken to n m = Err CallHandedOver
 
 -- "The outstanding number is the count."
 abbrev pub is_outstanding : Record → Invoke → Bool
 is_outstanding r n = n.0 == r.count.0
 
-abbrev pub if_outstanding : Bool → Outcome → Outcome
-if_outstanding right u = cond right u (Refused NotOutstanding)
+abbrev pub if_outstanding : Bool → Outcome → Result Outcome Refusal
+if_outstanding right u = cond right (Ok u) (Err NotOutstanding)
 
 -- kind 5: "State 3: freed, no message. State 4: to 5, message 5."
-abbrev pub resulted : Stage → Bool → Invoke → Outcome
-resulted Waits right n = Refused StateUnfit
-resulted AskedHere right n = if_outstanding right (Freed NoMessage NoMessage)
-resulted (AskedFrom c) right n = if_outstanding right (Becomes Taken n (PickResult c))
-resulted Taken right n = Refused StateUnfit
+abbrev pub resulted : Stage → Bool → Invoke → Result Outcome Refusal
+resulted Waits right n = Err StateUnfit
+resulted AskedHere right n = if_outstanding right (Freed None None)
+resulted (AskedFrom c) right n = if_outstanding right (Becomes Taken n (Some (PickResult c)))
+resulted Taken right n = Err StateUnfit
 
 -- kind 6: "State 3: freed, message 7. State 4: back to 1 or 2, message 6."
-abbrev pub failed : Stage → Bool → Invoke → Outcome
-failed Waits right n = Refused StateUnfit
-failed AskedHere right n = if_outstanding right (Freed ReleaseComplete NoMessage)
-failed (AskedFrom c) right n = if_outstanding right (Becomes Waits n (PickError c Undefined))
-failed Taken right n = Refused StateUnfit
+abbrev pub failed : Stage → Bool → Invoke → Result Outcome Refusal
+failed Waits right n = Err StateUnfit
+failed AskedHere right n = if_outstanding right (Freed (Some ReleaseComplete) None)
+failed (AskedFrom c) right n = if_outstanding right (Becomes Waits n (Some (PickError c Undefined)))
+failed Taken right n = Err StateUnfit
 
 -- Q-1: what a picker hears who waits for the result when the stay ends: "message 6 with error 1"
-abbrev pub to_picker : Stage → Message
-to_picker Waits = NoMessage
-to_picker AskedHere = NoMessage
-to_picker (AskedFrom c) = PickError c Undefined
-to_picker Taken = NoMessage
+abbrev pub to_picker : Stage → Option Message
+to_picker Waits = None
+to_picker AskedHere = None
+to_picker (AskedFrom c) = Some (PickError c Undefined)
+to_picker Taken = None
 
 -- kind 8: "Any occupied state: freed, no message." Q-1: in state 4 the picker hears of it
 abbrev pub released : Stage → Outcome
-released s = Freed (to_picker s) NoMessage
+released s = Freed (to_picker s) None
 
 -- kind 7: "State 3 with the right invoke number: freed, no message. State 4 with the right number: freed, message 6. Every other
 -- state or number: exactly as kind 8."
 abbrev pub failed_in_release : Stage → Bool → Outcome
 failed_in_release Waits right = released Waits
-failed_in_release AskedHere right = cond right (Freed NoMessage NoMessage) (released AskedHere)
-failed_in_release (AskedFrom c) right = cond right (Freed (PickError c Undefined) NoMessage) (released (AskedFrom c))
+failed_in_release AskedHere right = cond right (Freed None None) (released AskedHere)
+failed_in_release (AskedFrom c) right = cond right (Freed (Some (PickError c Undefined)) None) (released (AskedFrom c))
 failed_in_release Taken right = released Taken
 
 -- kind 9: "State 2: freed, no message."
-abbrev pub answered : State → Outcome
-answered Free = Refused StateUnfit
-answered ParkWaiting = Refused StateUnfit
-answered LineWaiting = Freed NoMessage NoMessage
-answered Requested = Refused StateUnfit
-answered RemoteRequested = Refused StateUnfit
-answered HandedOver = Refused StateUnfit
+abbrev pub answered : State → Result Outcome Refusal
+answered Free = Err StateUnfit
+answered ParkWaiting = Err StateUnfit
+answered LineWaiting = Ok (Freed None None)
+answered Requested = Err StateUnfit
+answered RemoteRequested = Err StateUnfit
+answered HandedOver = Err StateUnfit
 
 -- is T3, T6 or T9 in the set
 abbrev pub runs : ℕ → ℕ → Bool
@@ -128,27 +129,27 @@ runs set timer = cond (timer == 3) ((set % 2) == 1) (cond (timer == 6) ((set / 2
 
 -- "T3: freed, message 7. T6: freed, message 7." Q-1: T3 in state 4 "sends message 7 and then message 6"; T6 never runs there
 abbrev pub timed_out : Stage → Outcome
-timed_out s = Freed ReleaseComplete (to_picker s)
+timed_out s = Freed (Some ReleaseComplete) (to_picker s)
 
 -- kind 10; "T9 (house): as kind 6 in state 4."
-abbrev pub expired : Bool → ℕ → Stage → Invoke → Outcome
-expired running timer s n = cond running (cond (timer == 9) (failed s true n) (timed_out s)) (Refused TimerNotRunning)
+abbrev pub expired : Bool → ℕ → Stage → Invoke → Result Outcome Refusal
+expired running timer s n = cond running (cond (timer == 9) (failed s true n) (Ok (timed_out s))) (Err TimerNotRunning)
 
 -- ---- the turn
 
 -- a signal on a held call
-abbrev pub turn_on : Signal → Side → Record → Event → Outcome
-turn_on LocalPickup a r e = picked_up (stage_of r) AskedHere (up r.count) (Connect (up r.count))
-turn_on PickRequest a r e = picked_up (stage_of r) (AskedFrom e.connection) (up r.count) (Facility (up r.count))
+abbrev pub turn_on : Signal → Side → Record → Event → Result Outcome Refusal
+turn_on LocalPickup a r e = picked_up (stage_of r) AskedHere (up r.count) (Some (Connect (up r.count)))
+turn_on PickRequest a r e = picked_up (stage_of r) (AskedFrom e.connection) (up r.count) (Some (Facility (up r.count)))
 turn_on PickupResult a r e = resulted (stage_of r) (is_outstanding r e.invoke) r.count
 turn_on PickupError a r e = failed (stage_of r) (is_outstanding r e.invoke) r.count
-turn_on ErrorInRelease a r e = failed_in_release (stage_of r) (is_outstanding r e.invoke)
-turn_on Release a r e = released (stage_of r)
+turn_on ErrorInRelease a r e = Ok (failed_in_release (stage_of r) (is_outstanding r e.invoke))
+turn_on Release a r e = Ok (released (stage_of r))
 turn_on Answered a r e = answered r.state
 turn_on Expiry a r e = expired (runs (timer_set a r.state) e.timer) e.timer (stage_of r) r.count
 
 -- what an event does at a place of side a with record r: "The count starts at 0 in a new stay"
-abbrev pub turn : Rule → Side → Record → Event → Outcome
-turn (Start d) a r e = Becomes Waits no_invoke (greeting d)
-turn (On s) a r e = cond (is_free r.state) (Refused CallNotHeld) (turn_on s a r e)
-turn Unknown a r e = Refused UnknownKind
+abbrev pub turn : Option Rule → Side → Record → Event → Result Outcome Refusal
+turn (Some (Start d)) a r e = Ok (Becomes Waits no_invoke (greeting d))
+turn (Some (On s)) a r e = cond (is_free r.state) (Err CallNotHeld) (turn_on s a r e)
+turn None a r e = Err UnknownKind

@@ -1,22 +1,22 @@
 // The answers: to an event that is done, and to one that is refused.
 
 ghost use Rattle.std.specs.Prelude.{◌≡◌};
-ghost use Rattle.events.specs.declared.message.Message.TheVariants.{NoMessage};
 ghost use Rattle.events.specs.Answers.{accepted, saying, declined};
 
-use crate::message::Message;
+use crate::message::{Message, Sent};
 use crate::refusal::Refusal;
 use crate::{Answer, Event, rule};
-use table::{Call, Place, Side, State, Table, timers};
+use table::{Call, Place, Side, State, timers};
 
-// The event at an index is done: the state there before and after it, the call of the stay, and the messages.
+// The event at an index is done: the state there before and after it, the call of the stay, and the messages. (A struct of these would be filled once,
+// in `act`, and taken apart here.)
 pub(crate) fn accept(
     i: usize,
     before: State,
     after: State,
     call: Call,
-    first: Message,
-    second: Message,
+    first: Option<Message>,
+    second: Option<Message>,
 ) -> Answer
     ensures { result ≡ accepted i before after call first second }
 {
@@ -25,26 +25,21 @@ pub(crate) fn accept(
         number: 0,
         call,
         place: Place::at(i),
-        state: after.number(),
-        first: first.sent(),
+        state: u8::from(after),
+        first: Sent::from(first),
         started: timers::started(a, before, after),
         stopped: timers::started(a, after, before),
-        second: second.sent(),
+        second: Sent::from(second),
     }
 }
 
-fn say(number: u8, m: Message) -> Answer
+fn say(number: u8, m: Option<Message>) -> Answer
     ensures { result ≡ saying number m }
 {
     Answer {
         number,
-        call: [0; Table::CALL_OCTETS],
-        place: Place(0),
-        state: 0,
-        first: m.sent(),
-        started: 0,
-        stopped: 0,
-        second: Message::NoMessage.sent(),
+        first: Sent::from(m),
+        ..Answer::default()
     }
 }
 
@@ -53,12 +48,12 @@ pub fn decline(e: Event, w: Refusal) -> Answer
     ensures { result ≡ declined e w }
 {
     let k = rule::rule_of(e.kind);
-    say(w.number(), w.message(k, e.connection))
+    say(u8::from(w), w.message(k, e.connection))
 }
 
 // The answer with zeros everywhere but its number: to a line or an image that is refused.
 pub fn only_number(number: u8) -> Answer
-    ensures { result ≡ saying number NoMessage }
+    ensures { result ≡ saying number None }
 {
-    say(number, Message::NoMessage)
+    say(number, None)
 }

@@ -11,15 +11,16 @@ pub mod sought;
 pub mod turn;
 
 ghost use Rattle.std.specs.Prelude.{◌≡◌};
-ghost use Rattle.events.specs.Act.{changed, stay_call, left, acted};
+ghost use Rattle.events.specs.Act.{stay_call, acted};
 
-use message::{Message, Sent};
+use message::Sent;
 use rule::Rule;
 use table::{Call, Connection, Invoke, Place, Record, Side};
 use turn::Outcome;
 
-// An event. Fields that its kind does not name are ignored.
-#[derive(Clone, Copy)]
+// An event. Fields that its kind does not name are ignored. Kind, choice and timer are numbers, and no enums: a line holds any octet there, and is
+// written back octet for octet (`event_written_back`, lines).
+#[derive(Clone, Copy, Default)]
 pub struct Event {
     pub kind: u8,
     pub call: Call,
@@ -30,8 +31,9 @@ pub struct Event {
     pub timer: u8,
 }
 
-// The fourteen fields of an answer line, of which each message fills four. The first message is sent before the second.
-#[derive(Clone, Copy)]
+// The fourteen fields of an answer line, of which each message fills four. The first message is sent before the second. Number, state and the sets of
+// timers are numbers for the reason above (`answer_written_back`, lines).
+#[derive(Clone, Copy, Default)]
 pub struct Answer {
     pub number: u8,
     pub call: Call,
@@ -50,56 +52,35 @@ pub struct Acted {
     pub answer: Answer,
 }
 
-// The place has a new record.
-fn change(i: usize, old: Record, new: Record, call: Call, first: Message, second: Message) -> Acted
-    ensures { result ≡ changed i old new call first second }
-{
-    let before = old.state;
-    let after = new.state;
-    Acted {
-        after: new,
-        answer: answers::accept(i, before, after, call, first, second),
-    }
-}
-
 // The call of the stay: a park or an alert brings it, and any other event finds it.
-fn stay_call(k: Rule, e: Event, r: Record) -> Call
+fn stay_call(k: Option<Rule>, e: Event, r: Record) -> Call
     ensures { result ≡ stay_call k e r }
 {
     match k {
-        Rule::Start(_) => e.call,
-        Rule::On(_) => r.call,
-        Rule::Unknown => r.call,
+        Some(Rule::Start(_)) => e.call,
+        _ => r.call,
     }
 }
 
-// What an outcome leaves at a place. A refusal leaves its record.
-fn leave(e: Event, i: usize, r: Record, call: Call, u: Outcome) -> Acted
-    ensures { result ≡ left e i r call u }
-{
-    match u {
-        Outcome::Refused(w) => Acted {
-            after: r,
-            answer: answers::decline(e, w),
-        },
-        Outcome::Freed(first, second) => change(i, r, Record::free(), call, first, second),
-        Outcome::Becomes(s, n, m) => change(
-            i,
-            r,
-            turn::held_record(Side::at(i), s, call, n),
-            call,
-            m,
-            Message::NoMessage,
-        ),
-    }
-}
-
-// The event at the index that it is for, where this record stands.
+// The event at the index that it is for, where this record stands. A refusal leaves the record.
 pub fn act(e: Event, i: usize, r: Record) -> Acted
     ensures { result ≡ acted e i r }
 {
     let k = rule::rule_of(e.kind);
+    let a = Side::at(i);
     let call = stay_call(k, e, r);
-    let u = turn::turn_of(k, Side::at(i), r, e);
-    leave(e, i, r, call, u)
+    let (after, first, second) = match turn::turn_of(k, a, r, e) {
+        Ok(Outcome::Freed(first, second)) => (Record::free(), first, second),
+        Ok(Outcome::Becomes(s, n, m)) => (turn::held_record(a, s, call, n), m, None),
+        Err(w) => {
+            return Acted {
+                after: r,
+                answer: answers::decline(e, w),
+            };
+        }
+    };
+    Acted {
+        after,
+        answer: answers::accept(i, r.state, after.state, call, first, second),
+    }
 }

@@ -1,20 +1,18 @@
 // The messages that an answer asks the host to send, with what each carries.
 
 ghost use Rattle.std.specs.Prelude.{◌≡◌};
-ghost use Rattle.table.specs.Places.{no_connection, no_invoke};
-ghost use Rattle.events.specs.Message.{error_number, fields, sent};
+ghost use Rattle.events.specs.Message.{error_number, sent};
 
 use table::{Connection, Invoke};
 
 #[derive(Clone, Copy)]
 pub enum ErrorValue {
-    Undefined,
-    CallAlreadyPickedUp,
+    Undefined = 1,
+    CallAlreadyPickedUp = 2,
 }
 
 #[derive(Clone, Copy)]
 pub enum Message {
-    NoMessage,
     // PROGRESS with cpSetup Return Result
     ParkResult,
     // cpSetup Return Error
@@ -32,7 +30,8 @@ pub enum Message {
 }
 
 // A message as the four fields of an answer that it fills; all are zero where there is none.
-#[derive(Clone, Copy)]
+// They are numbers as those of an answer are (`Answer`).
+#[derive(Clone, Copy, Default)]
 pub struct Sent {
     pub message: u8,
     pub connection: Connection,
@@ -40,66 +39,51 @@ pub struct Sent {
     pub error: u8,
 }
 
-impl ErrorValue {
-    // The house number.
-    pub(crate) fn number(self) -> u8
-        ensures { result ≡ error_number self }
-    {
-        match self {
-            ErrorValue::Undefined => 1,
-            ErrorValue::CallAlreadyPickedUp => 2,
-        }
+// The house number.
+impl From<ErrorValue> for u8 {
+    ghost from_gives = { λ x n. n ≡ error_number x };
+
+    fn from(x: ErrorValue) -> u8 {
+        x as u8
     }
 }
 
-impl Message {
-    // The fields that the message fills, with the paper's number.
-    pub(crate) fn sent(self) -> Sent
-        ensures { result ≡ sent self }
-    {
-        match self {
-            Message::NoMessage => plain(0),
-            Message::ParkResult => plain(1),
-            Message::ParkError => Sent {
+// The fields that a message fills, with the paper's number.
+impl From<Option<Message>> for Sent {
+    ghost from_gives = { λ m s. s ≡ sent m };
+
+    fn from(m: Option<Message>) -> Sent {
+        let none = Sent::default();
+        match m {
+            None => none,
+            Some(Message::ParkResult) => Sent { message: 1, ..none },
+            Some(Message::ParkError) => Sent {
                 message: 2,
-                connection: Connection(0),
-                invoke: Invoke(0),
-                error: ErrorValue::Undefined.number(),
+                error: u8::from(ErrorValue::Undefined),
+                ..none
             },
-            Message::Connect(n) => with_invoke(3, n),
-            Message::Facility(n) => with_invoke(4, n),
-            Message::PickResult(c) => Sent {
+            Some(Message::Connect(n)) => Sent {
+                message: 3,
+                invoke: n,
+                ..none
+            },
+            Some(Message::Facility(n)) => Sent {
+                message: 4,
+                invoke: n,
+                ..none
+            },
+            Some(Message::PickResult(c)) => Sent {
                 message: 5,
                 connection: c,
-                invoke: Invoke(0),
-                error: 0,
+                ..none
             },
-            Message::PickError(c, x) => Sent {
+            Some(Message::PickError(c, x)) => Sent {
                 message: 6,
                 connection: c,
-                invoke: Invoke(0),
-                error: x.number(),
+                error: u8::from(x),
+                ..none
             },
-            Message::ReleaseComplete => plain(7),
+            Some(Message::ReleaseComplete) => Sent { message: 7, ..none },
         }
-    }
-}
-
-// A message that carries nothing.
-fn plain(message: u8) -> Sent
-    ensures { result ≡ fields message no_connection no_invoke 0 }
-{
-    with_invoke(message, Invoke(0))
-}
-
-// A message that carries the number of a pickup Invoke.
-fn with_invoke(message: u8, invoke: Invoke) -> Sent
-    ensures { result ≡ fields message no_connection invoke 0 }
-{
-    Sent {
-        message,
-        connection: Connection(0),
-        invoke,
-        error: 0,
     }
 }

@@ -9,103 +9,62 @@ use table::{Connection, Side};
 
 #[derive(Clone, Copy)]
 pub enum Refusal {
-    UnknownKind,
-    ChoiceOrTimer,
-    CallHeld,
-    SideFull,
-    CallNotHeld,
-    NothingWaits,
-    PickupHere,
-    PickupElsewhere,
-    CallHandedOver,
-    StateUnfit,
-    NotOutstanding,
-    TimerNotRunning,
-    TableUnsound,
+    UnknownKind = 1,
+    ChoiceOrTimer = 2,
+    CallHeld = 3,
+    SideFull = 4,
+    CallNotHeld = 5,
+    NothingWaits = 6,
+    PickupHere = 7,
+    PickupElsewhere = 11,
+    CallHandedOver = 12,
+    StateUnfit = 8,
+    NotOutstanding = 9,
+    TimerNotRunning = 10,
+    TableUnsound = 25,
+}
+
+// The paper's number.
+impl From<Refusal> for u8 {
+    ghost from_gives = { λ w n. n ≡ refusal_number w };
+
+    fn from(w: Refusal) -> u8 {
+        w as u8
+    }
 }
 
 impl Refusal {
-    // The paper's number.
-    pub(crate) fn number(self) -> u8
-        ensures { result ≡ refusal_number self }
-    {
-        match self {
-            Refusal::UnknownKind => 1,
-            Refusal::ChoiceOrTimer => 2,
-            Refusal::CallHeld => 3,
-            Refusal::SideFull => 4,
-            Refusal::CallNotHeld => 5,
-            Refusal::NothingWaits => 6,
-            Refusal::PickupHere => 7,
-            Refusal::PickupElsewhere => 11,
-            Refusal::CallHandedOver => 12,
-            Refusal::StateUnfit => 8,
-            Refusal::NotOutstanding => 9,
-            Refusal::TimerNotRunning => 10,
-            Refusal::TableUnsound => 25,
-        }
-    }
-
-    fn of_park(self) -> Message
+    fn of_park(self) -> Option<Message>
         ensures { result ≡ park_refused self }
     {
         match self {
-            Refusal::UnknownKind => Message::NoMessage,
-            Refusal::ChoiceOrTimer => Message::NoMessage,
-            Refusal::CallHeld => Message::ParkError,
-            Refusal::SideFull => Message::ParkError,
-            Refusal::CallNotHeld => Message::NoMessage,
-            Refusal::NothingWaits => Message::NoMessage,
-            Refusal::PickupHere => Message::NoMessage,
-            Refusal::PickupElsewhere => Message::NoMessage,
-            Refusal::CallHandedOver => Message::NoMessage,
-            Refusal::StateUnfit => Message::NoMessage,
-            Refusal::NotOutstanding => Message::NoMessage,
-            Refusal::TimerNotRunning => Message::NoMessage,
-            Refusal::TableUnsound => Message::NoMessage,
+            Refusal::CallHeld | Refusal::SideFull => Some(Message::ParkError),
+            _ => None,
         }
     }
 
-    fn of_pick_request(self, c: Connection) -> Message
+    fn of_pick_request(self, c: Connection) -> Option<Message>
         ensures { result ≡ pick_request_refused self c }
     {
         match self {
-            Refusal::UnknownKind => Message::NoMessage,
-            Refusal::ChoiceOrTimer => Message::PickError(c, ErrorValue::Undefined),
-            Refusal::CallHeld => Message::NoMessage,
-            Refusal::SideFull => Message::NoMessage,
-            Refusal::CallNotHeld => Message::PickError(c, ErrorValue::Undefined),
-            Refusal::NothingWaits => Message::PickError(c, ErrorValue::Undefined),
-            Refusal::PickupHere => Message::PickError(c, ErrorValue::CallAlreadyPickedUp),
-            Refusal::PickupElsewhere => Message::PickError(c, ErrorValue::CallAlreadyPickedUp),
-            Refusal::CallHandedOver => Message::PickError(c, ErrorValue::CallAlreadyPickedUp),
-            Refusal::StateUnfit => Message::NoMessage,
-            Refusal::NotOutstanding => Message::NoMessage,
-            Refusal::TimerNotRunning => Message::NoMessage,
-            Refusal::TableUnsound => Message::NoMessage,
+            Refusal::ChoiceOrTimer | Refusal::CallNotHeld | Refusal::NothingWaits => {
+                Some(Message::PickError(c, ErrorValue::Undefined))
+            }
+            Refusal::PickupHere | Refusal::PickupElsewhere | Refusal::CallHandedOver => {
+                Some(Message::PickError(c, ErrorValue::CallAlreadyPickedUp))
+            }
+            _ => None,
         }
     }
 
     // What goes out with the refusal: a park's error, or a pickrequ's on the connection that it came on.
-    pub(crate) fn message(self, k: Rule, c: Connection) -> Message
+    pub(crate) fn message(self, k: Option<Rule>, c: Connection) -> Option<Message>
         ensures { result ≡ refusal_message k self c }
     {
         match k {
-            Rule::Start(a) => match a {
-                Side::Position => self.of_park(),
-                Side::Line => Message::NoMessage,
-            },
-            Rule::On(s) => match s {
-                Signal::LocalPickup => Message::NoMessage,
-                Signal::PickRequest => self.of_pick_request(c),
-                Signal::PickupResult => Message::NoMessage,
-                Signal::PickupError => Message::NoMessage,
-                Signal::ErrorInRelease => Message::NoMessage,
-                Signal::Release => Message::NoMessage,
-                Signal::Answered => Message::NoMessage,
-                Signal::Expiry => Message::NoMessage,
-            },
-            Rule::Unknown => Message::NoMessage,
+            Some(Rule::Start(Side::Position)) => self.of_park(),
+            Some(Rule::On(Signal::PickRequest)) => self.of_pick_request(c),
+            _ => None,
         }
     }
 }

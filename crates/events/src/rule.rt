@@ -11,7 +11,6 @@ pub enum Rule {
     Start(Side),
     // Something reaches a call that is held.
     On(Signal),
-    Unknown,
 }
 
 #[derive(Clone, Copy)]
@@ -26,20 +25,20 @@ pub enum Signal {
     Expiry,
 }
 
-pub(crate) fn rule_of(kind: u8) -> Rule
+pub(crate) fn rule_of(kind: u8) -> Option<Rule>
     ensures { result ≡ rule_of kind }
 {
     match kind {
-        1 => Rule::Start(Side::Position),
-        2 => Rule::Start(Side::Line),
-        3 => Rule::On(Signal::LocalPickup),
-        4 => Rule::On(Signal::PickRequest),
-        5 => Rule::On(Signal::PickupResult),
-        6 => Rule::On(Signal::PickupError),
-        7 => Rule::On(Signal::ErrorInRelease),
-        8 => Rule::On(Signal::Release),
-        9 => Rule::On(Signal::Answered),
-        10 => Rule::On(Signal::Expiry),
-        _ => Rule::Unknown,
+        1 => Some(Rule::Start(Side::Position)),
+        2 => Some(Rule::Start(Side::Line)),
+        3 => Some(Rule::On(Signal::LocalPickup)),
+        4 => Some(Rule::On(Signal::PickRequest)),
+        5 => Some(Rule::On(Signal::PickupResult)),
+        6 => Some(Rule::On(Signal::PickupError)),
+        7 => Some(Rule::On(Signal::ErrorInRelease)),
+        8 => Some(Rule::On(Signal::Release)),
+        9 => Some(Rule::On(Signal::Answered)),
+        10 => Some(Rule::On(Signal::Expiry)),
+        _ => None,
     }
 }

@@ -25,20 +25,17 @@ pub enum Stage {
 
 #[derive(Clone, Copy)]
 pub enum Outcome {
-    Refused(Refusal),
     // The stay ends. The first message is sent before the second.
-    Freed(Message, Message),
+    Freed(Option<Message>, Option<Message>),
     // The stay goes on at this stage, with this count.
-    Becomes(Stage, Invoke, Message),
+    Becomes(Stage, Invoke, Option<Message>),
 }
 
 fn stage_by(s: State, c: Connection) -> Stage
     ensures { result ≡ stage_by s c }
 {
     match s {
-        State::Free => Stage::Waits,
-        State::ParkWaiting => Stage::Waits,
-        State::LineWaiting => Stage::Waits,
+        State::Free | State::ParkWaiting | State::LineWaiting => Stage::Waits,
         State::Requested => Stage::AskedHere,
         State::RemoteRequested => Stage::AskedFrom(c),
         State::HandedOver => Stage::Taken,
@@ -48,9 +45,7 @@ fn stage_by(s: State, c: Connection) -> Stage
 fn stage_of(r: Record) -> Stage
     ensures { result ≡ stage_of r }
 {
-    let s = r.state;
-    let c = r.connection;
-    stage_by(s, c)
+    stage_by(r.state, r.connection)
 }
 
 fn state_at(a: Side, s: Stage) -> State
@@ -68,10 +63,8 @@ fn connection_at(s: Stage) -> Connection
     ensures { result ≡ connection_at s }
 {
     match s {
-        Stage::Waits => Connection(0),
-        Stage::AskedHere => Connection(0),
         Stage::AskedFrom(c) => c,
-        Stage::Taken => Connection(0),
+        _ => Connection(0),
     }
 }
 
@@ -87,94 +80,86 @@ pub(crate) fn held_record(a: Side, s: Stage, call: Call, n: Invoke) -> Record
     }
 }
 
-fn greet(a: Side) -> Message
+fn greet(a: Side) -> Option<Message>
     ensures { result ≡ greeting a }
 {
     match a {
-        Side::Position => Message::ParkResult,
-        Side::Line => Message::NoMessage,
+        Side::Position => Some(Message::ParkResult),
+        Side::Line => None,
     }
 }
 
 fn up_one(n: Invoke) -> Invoke
     ensures { result ≡ up n }
 {
-    Invoke(std::num::wrapping_add_u16(n.0, 1))
+    Invoke(n.0.wrapping_add(1))
 }
 
 // Kinds 3 and 4.
-fn pick_up(s: Stage, to: Stage, n: Invoke, m: Message) -> Outcome
-    ensures { result ≡ picked_up s to n m }
+fn pick_up(s: Stage, to: Stage, n: Invoke, m: Message) -> Result<Outcome, Refusal>
+    ensures { result ≡ picked_up s to n (Some m) }
 {
     match s {
-        Stage::Waits => Outcome::Becomes(to, n, m),
-        Stage::AskedHere => Outcome::Refused(Refusal::PickupHere),
-        Stage::AskedFrom(_) => Outcome::Refused(Refusal::PickupElsewhere),
-        Stage::Taken => Outcome::Refused(Refusal::CallHandedOver),
+        Stage::Waits => Ok(Outcome::Becomes(to, n, Some(m))),
+        Stage::AskedHere => Err(Refusal::PickupHere),
+        Stage::AskedFrom(_) => Err(Refusal::PickupElsewhere),
+        Stage::Taken => Err(Refusal::CallHandedOver),
     }
 }
 
 fn is_outstanding(r: Record, n: Invoke) -> bool
     ensures { result ≡ is_outstanding r n }
 {
-    n.0 == r.count.0
+    n == r.count
 }
 
-fn if_outstanding(right: bool, u: Outcome) -> Outcome
+fn if_outstanding(right: bool, u: Outcome) -> Result<Outcome, Refusal>
     ensures { result ≡ if_outstanding right u }
 {
     if right {
-        u
+        Ok(u)
     } else {
-        Outcome::Refused(Refusal::NotOutstanding)
+        Err(Refusal::NotOutstanding)
     }
 }
 
 // Kind 5.
-fn on_result(s: Stage, right: bool, n: Invoke) -> Outcome
+fn on_result(s: Stage, right: bool, n: Invoke) -> Result<Outcome, Refusal>
     ensures { result ≡ resulted s right n }
 {
     match s {
-        Stage::Waits => Outcome::Refused(Refusal::StateUnfit),
-        Stage::AskedHere => if_outstanding(
-            right,
-            Outcome::Freed(Message::NoMessage, Message::NoMessage),
-        ),
-        Stage::AskedFrom(c) => if_outstanding(
-            right,
-            Outcome::Becomes(Stage::Taken, n, Message::PickResult(c)),
-        ),
-        Stage::Taken => Outcome::Refused(Refusal::StateUnfit),
+        Stage::AskedHere => if_outstanding(right, Outcome::Freed(None, None)),
+        Stage::AskedFrom(c) => {
+            let told = Message::PickResult(c);
+            if_outstanding(right, Outcome::Becomes(Stage::Taken, n, Some(told)))
+        }
+        Stage::Waits | Stage::Taken => Err(Refusal::StateUnfit),
     }
 }
 
 // Kind 6.
-fn on_error(s: Stage, right: bool, n: Invoke) -> Outcome
+fn on_error(s: Stage, right: bool, n: Invoke) -> Result<Outcome, Refusal>
     ensures { result ≡ failed s right n }
 {
     match s {
-        Stage::Waits => Outcome::Refused(Refusal::StateUnfit),
-        Stage::AskedHere => if_outstanding(
-            right,
-            Outcome::Freed(Message::ReleaseComplete, Message::NoMessage),
-        ),
+        Stage::AskedHere => {
+            if_outstanding(right, Outcome::Freed(Some(Message::ReleaseComplete), None))
+        }
         Stage::AskedFrom(c) => {
             let told = Message::PickError(c, ErrorValue::Undefined);
-            if_outstanding(right, Outcome::Becomes(Stage::Waits, n, told))
+            if_outstanding(right, Outcome::Becomes(Stage::Waits, n, Some(told)))
         }
-        Stage::Taken => Outcome::Refused(Refusal::StateUnfit),
+        Stage::Waits | Stage::Taken => Err(Refusal::StateUnfit),
     }
 }
 
 // What the end of a stay means to a picker: one whose result is still out hears that none will come.
-fn to_picker(s: Stage) -> Message
+fn to_picker(s: Stage) -> Option<Message>
     ensures { result ≡ to_picker s }
 {
     match s {
-        Stage::Waits => Message::NoMessage,
-        Stage::AskedHere => Message::NoMessage,
-        Stage::AskedFrom(c) => Message::PickError(c, ErrorValue::Undefined),
-        Stage::Taken => Message::NoMessage,
+        Stage::AskedFrom(c) => Some(Message::PickError(c, ErrorValue::Undefined)),
+        _ => None,
     }
 }
 
@@ -182,20 +167,16 @@ fn to_picker(s: Stage) -> Message
 fn on_release(s: Stage) -> Outcome
     ensures { result ≡ released s }
 {
-    Outcome::Freed(to_picker(s), Message::NoMessage)
+    Outcome::Freed(to_picker(s), None)
 }
 
 // Kind 9.
-fn on_answered(s: State) -> Outcome
+fn on_answered(s: State) -> Result<Outcome, Refusal>
     ensures { result ≡ answered s }
 {
     match s {
-        State::Free => Outcome::Refused(Refusal::StateUnfit),
-        State::ParkWaiting => Outcome::Refused(Refusal::StateUnfit),
-        State::LineWaiting => Outcome::Freed(Message::NoMessage, Message::NoMessage),
-        State::Requested => Outcome::Refused(Refusal::StateUnfit),
-        State::RemoteRequested => Outcome::Refused(Refusal::StateUnfit),
-        State::HandedOver => Outcome::Refused(Refusal::StateUnfit),
+        State::LineWaiting => Ok(Outcome::Freed(None, None)),
+        _ => Err(Refusal::StateUnfit),
     }
 }
 
@@ -214,67 +195,54 @@ fn does_run(set: u8, timer: u8) -> bool
 fn on_time_out(s: Stage) -> Outcome
     ensures { result ≡ timed_out s }
 {
-    Outcome::Freed(Message::ReleaseComplete, to_picker(s))
+    Outcome::Freed(Some(Message::ReleaseComplete), to_picker(s))
 }
 
 // Kind 10.
-fn on_expiry(running: bool, timer: u8, s: Stage, n: Invoke) -> Outcome
+fn on_expiry(running: bool, timer: u8, s: Stage, n: Invoke) -> Result<Outcome, Refusal>
     ensures { result ≡ expired running timer s n }
 {
-    if running {
-        if timer == 9 {
-            on_error(s, true, n)
-        } else {
-            on_time_out(s)
-        }
+    if !running {
+        Err(Refusal::TimerNotRunning)
+    } else if timer == 9 {
+        on_error(s, true, n)
     } else {
-        Outcome::Refused(Refusal::TimerNotRunning)
+        Ok(on_time_out(s))
     }
 }
 
 fn is_running(a: Side, r: Record, timer: u8) -> bool
     ensures { result ≡ runs (timer_set a r.state) timer }
 {
-    let s = r.state;
-    does_run(timers::timer_set(a, s), timer)
+    does_run(timers::timer_set(a, r.state), timer)
 }
 
 // A signal on a held call.
-fn turn_on(k: Signal, a: Side, r: Record, e: Event) -> Outcome
+fn turn_on(k: Signal, a: Side, r: Record, e: Event) -> Result<Outcome, Refusal>
     ensures { result ≡ turn_on k a r e }
 {
     let s = stage_of(r);
     let n = r.count;
     let next = up_one(n);
-    let now = r.state;
     let c = e.connection;
-    let invoke = e.invoke;
     match k {
         Signal::LocalPickup => pick_up(s, Stage::AskedHere, next, Message::Connect(next)),
         Signal::PickRequest => pick_up(s, Stage::AskedFrom(c), next, Message::Facility(next)),
-        Signal::PickupResult => on_result(s, is_outstanding(r, invoke), n),
-        Signal::PickupError => on_error(s, is_outstanding(r, invoke), n),
-        Signal::ErrorInRelease => on_release(s),
-        Signal::Release => on_release(s),
-        Signal::Answered => on_answered(now),
+        Signal::PickupResult => on_result(s, is_outstanding(r, e.invoke), n),
+        Signal::PickupError => on_error(s, is_outstanding(r, e.invoke), n),
+        Signal::ErrorInRelease | Signal::Release => Ok(on_release(s)),
+        Signal::Answered => on_answered(r.state),
         Signal::Expiry => on_expiry(is_running(a, r, e.timer), e.timer, s, n),
     }
 }
 
 // What an event does at a place of this side with this record.
-pub(crate) fn turn_of(k: Rule, a: Side, r: Record, e: Event) -> Outcome
+pub(crate) fn turn_of(k: Option<Rule>, a: Side, r: Record, e: Event) -> Result<Outcome, Refusal>
     ensures { result ≡ turn k a r e }
 {
-    match k {
-        Rule::Start(d) => Outcome::Becomes(Stage::Waits, Invoke(0), greet(d)),
-        Rule::On(s) => {
-            let now = r.state;
-            if now.is_free() {
-                Outcome::Refused(Refusal::CallNotHeld)
-            } else {
-                turn_on(s, a, r, e)
-            }
-        }
-        Rule::Unknown => Outcome::Refused(Refusal::UnknownKind),
+    match k.ok_or(Refusal::UnknownKind)? {
+        Rule::Start(d) => Ok(Outcome::Becomes(Stage::Waits, Invoke(0), greet(d))),
+        Rule::On(_) if r.state.is_free() => Err(Refusal::CallNotHeld),
+        Rule::On(s) => turn_on(s, a, r, e),
     }
 }

@@ -9,9 +9,10 @@ use lib.Dec.{eqb, ltb}
 use lib.ListN.{length, drop, get_or, set}
 use lib.Seq.{get_or-set_same, get_or-set_other}
 use borrow.Author.Count.{below_more}
-use borrow.Author.Tests.{le-ltb, ltb-false}
+use borrow.Author.Tests.{le-ltb, ltb-true, ltb-false}
 use Rattle.laws.proofs.Runs.{at_step}
-use Rattle.fields.specs.Calls.{nibble_of, bad_call, call_from, call_of}
+use Rattle.std.specs.Prelude.{None, max}
+use Rattle.fields.specs.Calls.{nibble_of, call_from, call_of}
 
 two_steps : (s : List ℕ) (i : ℕ) → i * 2 + 1 < length s
     → drop (i * 2) s ≡ get_or s (i * 2) 0 ∷ get_or s (i * 2 + 1) 0 ∷ drop ((i + 1) * 2) s
@@ -26,29 +27,37 @@ abbrev with_two : List ℕ → ℕ → ℕ → List ℕ
 with_two acc x y = acc ++ ((nibble_of x * 16 + nibble_of y) ∷ [])
 
 -- two octets, of which one may be no digit
-bad_two : (x y : ℕ) (acc s : List ℕ) → (nibble_of x ≤ 15 → nibble_of y ≤ 15 → call_from (with_two acc x y) s ≡ bad_call)
-    → call_from acc (x ∷ y ∷ s) ≡ bad_call
+bad_two : (x y : ℕ) (acc s : List ℕ) → (nibble_of x ≤ 15 → nibble_of y ≤ 15 → call_from (with_two acc x y) s ≡ None)
+    → call_from acc (x ∷ y ∷ s) ≡ None
 bad_two x y acc s k = by (ltb 15 (nibble_of x)) (ltb 15 (nibble_of y)) refl refl
   where
     by : (a b : Bool) → ltb 15 (nibble_of x) ≡ a → ltb 15 (nibble_of y) ≡ b
-        → cond a bad_call (cond b bad_call (call_from (with_two acc x y) s)) ≡ bad_call
+        → cond a None (cond b None (call_from (with_two acc x y) s)) ≡ None
     by true b p q = refl
     by false true p q = refl
     by false false p q = k (ltb-false 15 (nibble_of x) p) (ltb-false 15 (nibble_of y) q)
 
-bad_from : (s acc : List ℕ) (i : ℕ) → i < length s → 15 < nibble_of (get_or s i 0) → call_from acc s ≡ bad_call
+bad_from : (s acc : List ℕ) (i : ℕ) → i < length s → 15 < nibble_of (get_or s i 0) → call_from acc s ≡ None
 bad_from [] acc i h b = absurd (omega arith)
 bad_from (x ∷ []) acc i h b = refl
 bad_from (x ∷ y ∷ s) acc zero h b = bad_two x y acc s λ p q. absurd (omega arith)
 bad_from (x ∷ y ∷ s) acc (suc zero) h b = bad_two x y acc s λ p q. absurd (omega arith)
 bad_from (x ∷ y ∷ s) acc (suc (suc i)) h b = bad_two x y acc s λ p q. bad_from s (with_two acc x y) i (omega arith) b
 
-pub bad_digit : (s : List ℕ) (i : ℕ) → i < length s → 15 < nibble_of (get_or s i 0) → call_of s ≡ bad_call
+pub bad_digit : (s : List ℕ) (i : ℕ) → i < length s → 15 < nibble_of (get_or s i 0) → call_of s ≡ None
 bad_digit s i h b = by (eqb (length s) 32) (bad_from s [] i h b)
   where
-    by : (t : Bool) → call_from [] s ≡ bad_call → cond t (call_from [] s) bad_call ≡ bad_call
+    by : (t : Bool) → call_from [] s ≡ None → cond t (call_from [] s) None ≡ None
     by true e = e
     by false e = refl
+
+-- where the largest value is no digit's, the largest so far or the one more is none
+pub bad_largest : (s : List ℕ) (most v top : ℕ) → top ≡ max most v → (15 < most → call_of s ≡ None) → (15 < v → call_of s ≡ None) → 15 < top → call_of s ≡ None
+bad_largest s most v top e old new h = by (ltb 15 most) refl
+  where
+    by : (b : Bool) → ltb 15 most ≡ b → call_of s ≡ None
+    by true q = old (ltb-true 15 most q)
+    by false q = new (omega (arith, ltb-false 15 most q))
 
 -- the value of the octet at n is stored, and is at most the largest
 abbrev pub Stored : List ℕ → List ℕ → ℕ → ℕ → Type 0

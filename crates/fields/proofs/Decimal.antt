@@ -10,11 +10,12 @@ use lib.Dec.{ltb}
 use native.Mathlib.Decide.{dec_lt, ℕ_discrete}
 use lib.ListN.{length, get_or, length-append, get_or-append}
 use borrow.Author.Tests.{ltb-true, ltb-false, lt-ltb, le-ltb, le-leb, ne_eqb}
-use Rattle.laws.proofs.Runs.{length_snoc}
+use Rattle.laws.proofs.Runs.{length_snoc, sets_more}
 use Rattle.fields.specs.Parts.{tabs}
-use Rattle.fields.specs.declared.numbers.Number.TheVariants.{Is}
+use Rattle.std.specs.Prelude.{Some}
+use Rattle.std.proofs.lemmas.Option.{none-some, same_Some}
 use Rattle.fields.specs.Numbers.{digits_from, number_of, digits_of, decimal}
-use Rattle.fields.proofs.NumberLaws.{number_short, number_long, bad_is, is_is, digit_inv, number_inv, Digit, Whole}
+use Rattle.fields.proofs.NumberLaws.{number_short, number_long, digit_inv, number_inv, Digit, Whole}
 use Rattle.fields.proofs.Joined.{tabs_append}
 
 -- one digit d, read on
@@ -76,7 +77,7 @@ digits_tabs (suc k) v h = go (ltb v 10) refl (digits_tabs k (v / 10))
         omega (arith, tabs_append (digits_of k (v / 10)) ((48 + v % 10) ∷ []), ih (omega (arith, pow-suc 10 (suc k))))
 
 -- reading what was written
-pub number_written : (v most : ℕ) → v ≤ most → v < 10 ^ 20 → number_of (decimal v) most ≡ Is v
+pub number_written : (v most : ℕ) → v ≤ most → v < 10 ^ 20 → number_of (decimal v) most ≡ Some v
 unfolding decimal
 number_written zero most h k = sym (number_short (48 ∷ []) most (λ e. omega arith) (omega arith)) ∙ digits_back most 19 0 [] (omega arith) (omega arith)
 number_written (suc n) most h k = go (dec_lt 1 (length s))
@@ -84,10 +85,10 @@ number_written (suc n) most h k = go (dec_lt 1 (length s))
     s : List ℕ
     s = digits_of 19 (suc n)
 
-    back : digits_from most 0 s ≡ Is (suc n)
+    back : digits_from most 0 s ≡ Some (suc n)
     back = ap (digits_from most 0) (sym (append-nil s)) ∙ digits_back most 19 (suc n) [] k h
 
-    go : Dec (1 < length s) → number_of s most ≡ Is (suc n)
+    go : Dec (1 < length s) → number_of s most ≡ Some (suc n)
     go (yes l) = sym (number_long s most l (λ e. omega (arith, digits_lead 19 (suc n) k (omega arith)))) ∙ back
     go (no l) = sym (number_short s most (λ e. omega (arith, digits_some 19 (suc n))) (omega arith)) ∙ back
 
@@ -115,8 +116,8 @@ decimal_more a d p h r =
     rw (le-ltb (a * 10 + d) 10 (omega arith), q, m, digits_room 18 a r)
 
 -- digits read on from a number above 0
-digits_read : (most a : ℕ) (s : List ℕ) (v : ℕ) → most < 10 ^ 20 → 0 < a → digits_from most a s ≡ Is v → decimal v ≡ decimal a ++ s
-digits_read most a [] v h p e = ap decimal (sym (is_is a v e)) ∙ sym (append-nil (decimal a))
+digits_read : (most a : ℕ) (s : List ℕ) (v : ℕ) → most < 10 ^ 20 → 0 < a → digits_from most a s ≡ Some v → decimal v ≡ decimal a ++ s
+digits_read most a [] v h p e = ap decimal (sym (same_Some a v e)) ∙ sym (append-nil (decimal a))
 digits_read most a (x ∷ s) v h p e =
     let d = digit_inv most a x s v e in
     let x' : 48 + (x - 48) ≡ x = omega arith in
@@ -130,8 +131,8 @@ pub decimal_digit : (d : ℕ) → d < 10 → decimal d ≡ (48 + d) ∷ []
 unfolding decimal
 decimal_digit d h = rw (lt-ltb d 10 h)
 
-pub number_read : (s : List ℕ) (most v : ℕ) → most < 10 ^ 20 → number_of s most ≡ Is v → decimal v ≡ s
-number_read [] most v h e = absurd (bad_is v e)
+pub number_read : (s : List ℕ) (most v : ℕ) → most < 10 ^ 20 → number_of s most ≡ Some v → decimal v ≡ s
+number_read [] most v h e = absurd (none-some v e)
 number_read (x ∷ s) most v h e = go (ℕ_discrete x 48)
   where
     w : Whole most x s v
@@ -140,7 +141,7 @@ number_read (x ∷ s) most v h e = go (ℕ_discrete x 48)
     d : Digit most 0 x s v
     d = digit_inv most 0 x s v w.digits
 
-    on : digits_from most (x - 48) s ≡ Is v
+    on : digits_from most (x - 48) s ≡ Some v
     on = ap (λ (n : ℕ). digits_from most n s) (omega arith) ∙ d.on
 
     first : decimal (x - 48) ≡ x ∷ []
@@ -149,7 +150,7 @@ number_read (x ∷ s) most v h e = go (ℕ_discrete x 48)
     go : Dec (x ≡ 48) → decimal v ≡ x ∷ s
     go (yes q) =
         let n : s ≡ [] = w.alone q in
-        ap decimal (sym (is_is (x - 48) v (ap (digits_from most (x - 48)) (sym n) ∙ on))) ∙ first ∙ ap (λ (l : List ℕ). x ∷ l) (sym n)
+        ap decimal (sym (same_Some (x - 48) v (ap (digits_from most (x - 48)) (sym n) ∙ on))) ∙ first ∙ ap (λ (l : List ℕ). x ∷ l) (sym n)
     go (no q) = digits_read most (x - 48) s v h (omega (arith, d.low)) on ∙ ap (λ (l : List ℕ). l ++ s) first
 
 -- a number below a power of ten has no more digits than the power has zeros
@@ -227,3 +228,8 @@ digits_twenty (suc k) v = go (ltb v 10) (digits_twenty k (v / 10))
 pub decimal_twenty : (v : ℕ) → length (decimal v) ≤ 20
 unfolding decimal
 decimal_twenty v = digits_twenty 19 v
+
+-- what the functions of numbers.rt that measure and write numbers go by
+pub ruleset measuring = (length_digit, length_five_more, decimal_twenty)
+
+pub ruleset putting = (length_digit, length_step, decimal_digit, decimal_step, sets_more)

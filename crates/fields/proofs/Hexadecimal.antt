@@ -11,12 +11,10 @@ use lib.ListN.{length, take, get_or}
 use lib.Seq.{take-suc}
 use borrow.Author.Tests.{ltb-true, ltb-false, lt-ltb, le-ltb, eq-eqb, ne_eqb}
 use Rattle.fields.specs.Parts.{tabs}
-use Rattle.fields.specs.Calls.{nibble_of, digit_of, hex_of, call_from, call_of, bad_call}
-use Rattle.fields.specs.declared.calls.ReadCall.{ReadCall}
+use Rattle.std.specs.Prelude.{Some, None}
+use Rattle.std.proofs.lemmas.Option.{none-some, same_Some}
+use Rattle.fields.specs.Calls.{nibble_of, digit_of, hex_of, call_from, call_of}
 use Rattle.fields.proofs.Passed.{cond_past}
-
-abbrev good : List ℕ → ReadCall
-good c = record { good = true; call = c }
 
 nibble_digit : (n : ℕ) → n < 16 → nibble_of (digit_of n) ≡ n
 nibble_digit n h = go (ltb n 10) refl
@@ -48,19 +46,19 @@ digit_nibble x h = go (ltb x 48) refl (ltb x 58) refl (ltb x 97) refl (ltb x 103
     go false ea false eb false ec false ed h = absurd (omega arith)
 
 -- reading what was written
-hex_back : (s acc : List ℕ) → ((i : ℕ) → get_or s i 0 < 256) → call_from acc (hex_of s) ≡ good (acc ++ s)
-hex_back [] acc h = ap good (sym (append-nil acc))
+hex_back : (s acc : List ℕ) → ((i : ℕ) → get_or s i 0 < 256) → call_from acc (hex_of s) ≡ Some (acc ++ s)
+hex_back [] acc h = ap Some (sym (append-nil acc))
 hex_back (b ∷ s) acc h =
     let hb : b < 256 = h 0 in
     let e : b / 16 * 16 + b % 16 ≡ b = omega arith in
     rw (nibble_digit (b / 16) (omega arith), le-ltb 15 (b / 16) (omega arith), nibble_digit (b % 16) (omega arith), le-ltb 15 (b % 16) (omega arith), e)
-    (hex_back s (acc ++ (b ∷ [])) (λ i. h (suc i)) ∙ ap good (append_assoc acc (b ∷ []) s))
+    (hex_back s (acc ++ (b ∷ [])) (λ i. h (suc i)) ∙ ap Some (append_assoc acc (b ∷ []) s))
 
 pub length_hex : (s : List ℕ) → length (hex_of s) ≡ length s * 2
 length_hex [] = omega arith
 length_hex (b ∷ s) = omega (arith, length_hex s)
 
-pub call_written : (s : List ℕ) → length s ≡ 16 → ((i : ℕ) → get_or s i 0 < 256) → call_of (hex_of s) ≡ good s
+pub call_written : (s : List ℕ) → length s ≡ 16 → ((i : ℕ) → get_or s i 0 < 256) → call_of (hex_of s) ≡ Some s
 call_written s l h = rw (eq-eqb (length (hex_of s)) 32 (omega (arith, length_hex s))) (hex_back s [] h)
 
 digit_tab : (n : ℕ) (s : List ℕ) → tabs (digit_of n ∷ s) ≡ tabs s
@@ -75,9 +73,6 @@ hex_tabs [] = refl
 hex_tabs (b ∷ s) = digit_tab (b / 16) (digit_of (b % 16) ∷ hex_of s) ∙ digit_tab (b % 16) (hex_of s) ∙ hex_tabs s
 
 -- writing what was read
-no_good : (c : List ℕ) → bad_call ≡ good c → ⊥
-no_good c e = let z : ◌≡◌ {A = Bool} false true = ap (λ (r : ReadCall). r.good) e in let y : ◌≡◌ {A = ℕ} 0 1 = cc in omega arith
-
 hex_append : (a b : List ℕ) → hex_of (a ++ b) ≡ hex_of a ++ hex_of b
 hex_append [] b = refl
 hex_append (x ∷ a) b = ap (λ (l : List ℕ). digit_of (x / 16) ∷ digit_of (x % 16) ∷ l) (hex_append a b)
@@ -88,23 +83,23 @@ hex_two x y hx hy =
     let m : (nibble_of x * 16 + nibble_of y) % 16 ≡ nibble_of y = omega arith in
     ap₂ (λ (a b : ℕ). digit_of a ∷ digit_of b ∷ []) q m ∙ ap₂ (λ (a b : ℕ). a ∷ b ∷ []) (digit_nibble x hx) (digit_nibble y hy)
 
-hex_read : (s acc c : List ℕ) → call_from acc s ≡ good c → hex_of c ≡ hex_of acc ++ s
-hex_read [] acc c e = ap (λ (r : ReadCall). hex_of r.call) (sym e) ∙ sym (append-nil (hex_of acc))
-hex_read (x ∷ []) acc c e = absurd (no_good c e)
+hex_read : (s acc c : List ℕ) → call_from acc s ≡ Some c → hex_of c ≡ hex_of acc ++ s
+hex_read [] acc c e = ap hex_of (sym (same_Some acc c e)) ∙ sym (append-nil (hex_of acc))
+hex_read (x ∷ []) acc c e = absurd (none-some c e)
 hex_read (x ∷ y ∷ s) acc c e =
-    let p = cond_past (ltb 15 (nibble_of x)) bad_call _ (good c) (no_good c) e in
-    let q = cond_past (ltb 15 (nibble_of y)) bad_call _ (good c) (no_good c) p.1 in
+    let p = cond_past (ltb 15 (nibble_of x)) None _ (Some c) (none-some c) e in
+    let q = cond_past (ltb 15 (nibble_of y)) None _ (Some c) (none-some c) p.1 in
     let n = (nibble_of x * 16 + nibble_of y) in
     hex_read s (acc ++ (n ∷ [])) c q.1
     ∙ ap (λ (l : List ℕ). l ++ s) (hex_append acc (n ∷ []) ∙ ap (λ (l : List ℕ). hex_of acc ++ l) (hex_two x y (ltb-false 15 _ p.0) (ltb-false 15 _ q.0)))
     ∙ append_assoc (hex_of acc) (x ∷ y ∷ []) s
 
-pub call_read : (s c : List ℕ) → call_of s ≡ good c → hex_of c ≡ s
+pub call_read : (s c : List ℕ) → call_of s ≡ Some c → hex_of c ≡ s
 call_read s c e = go (eqb (length s) 32) e
   where
-    go : (b : Bool) → cond b (call_from [] s) bad_call ≡ good c → hex_of c ≡ s
+    go : (b : Bool) → cond b (call_from [] s) None ≡ Some c → hex_of c ≡ s
     go true e = hex_read s [] c e
-    go false e = absurd (no_good c e)
+    go false e = absurd (none-some c e)
 
 -- the digits of one octet more
 pub hex_more : (s : List ℕ) (i : ℕ) → i < length s

@@ -6,7 +6,6 @@ use Rattle.fields.proofs.parts.first_field.Reads as first_field
 use Rattle.fields.proofs.numbers.read_number.Reads as read_number
 use Rattle.fields.proofs.numbers.digits.Reads as digits
 use Rattle.fields.proofs.calls.read_call.Reads as read-call
-use Rattle.fields.proofs.Fault.is_none.Reads as is_none
 use Rattle.fields.proofs.Fault.field.Reads as field
 use Rattle.fields.proofs.read_fields.Reads as read-fields
 use Rattle.fields.proofs.write_fields.Reads as write-fields
@@ -23,9 +22,6 @@ digits_decided κ a x y d e p q = p ∙ sym q
 
 pub read_call_decided : Decides read-call.Post
 read_call_decided κ a x y d e p q = p ∙ sym q
-
-pub is_none_decided : Decides is_none.Post
-is_none_decided κ a x y d e p q = p ∙ sym q
 
 pub field_decided : Decides field.Post
 field_decided κ a x y d e p q = p ∙ sym q

@@ -1,5 +1,5 @@
-// Lines of fields parted by tabs, read and written by their description: for each field the greatest number that may stand there, or that it is
-// the call. The reader hands on each field as the part of the line that it is (`parts`) to the reader of numbers (`numbers`) or of calls
+// Lines of fields parted by tabs, read and written by their description: for each field its kind, which is a number up to a greatest value, or the
+// call. The reader hands on each field as the part of the line that it is (`parts`) to the reader of numbers (`numbers`) or of calls
 // (`calls`). What a line says, and how it is written, is defined in specs/, from document 01's "Lines, image, status" and refusals 21 to 24.
 #![tactic(auto)]
 
@@ -11,13 +11,16 @@ ghost use Rattle.std.specs.Prelude.{◌≡◌, ◌+◌, ◌≤◌, ◌<◌, leng
 ghost use Rattle.std.proofs.lemmas.List.Edits.{sets};
 ghost use Rattle.table.specs.Places.{no_call};
 ghost use Rattle.fields.specs.Parts.{tabs};
-ghost use Rattle.fields.specs.Line.{most_fields, no_values, fails, walk, read_fields, is_none, fault_field, text, line_from, line_of, Writes};
+ghost use Rattle.fields.specs.Line.{most_fields, no_values, walk, read_fields, fault_field, text, line_from, line_of, Writes};
 
-use numbers::Number;
 use table::{Call, Table};
 
-// A description has for each field the greatest value of the number that stands there, which is above 0, or this for the call.
-pub const CALL: u16 = 0;
+// What stands in a field: the call, or a number that is at most this. A description of a line has it of each field.
+#[derive(Clone, Copy, PartialEq, Eq, Debug)]
+pub enum Kind {
+    Call,
+    Number(u16),
+}
 
 // The most fields that a description may have.
 pub const MOST_FIELDS: usize = 14;
@@ -25,34 +28,20 @@ pub const MOST_FIELDS: usize = 14;
 // The number of each field at the field's index, the first field's at 0; 0 at the call's index and past the last field.
 pub type Values = [u16; MOST_FIELDS];
 
-// Why a line does not say what its description asks for, if it does not.
-#[derive(Clone, Copy)]
+// Why a line does not say what its description asks for.
+#[derive(Clone, Copy, PartialEq, Eq, Debug)]
 pub enum Fault {
-    NoFault,
     TooLong,
     WrongCount,
     BadField(u8),
 }
 
 impl Fault {
-    // Is there none?
-    pub fn is_none(self) -> bool
-        ensures { result ≡ is_none self }
-    {
-        match self {
-            Fault::NoFault => true,
-            Fault::TooLong => false,
-            Fault::WrongCount => false,
-            Fault::BadField(_) => false,
-        }
-    }
-
-    // The field that is to blame, counted from 1, or 0 where no single one is.
+    // The field that is to blame, counted from 1, or 0 where no single one is: C gets it so of `park_bad_field`.
     pub fn field(self) -> u8
         ensures { result ≡ fault_field self }
     {
         match self {
-            Fault::NoFault => 0,
             Fault::TooLong => 0,
             Fault::WrongCount => 0,
             Fault::BadField(field) => field,
@@ -60,154 +49,124 @@ impl Fault {
     }
 }
 
-// What a line says, or its fault and zeros.
-#[derive(Clone, Copy)]
+// What a line says, or is to say.
+#[derive(Clone, Copy, PartialEq, Eq, Debug, Default)]
 pub struct Fields {
-    pub fault: Fault,
     pub values: Values,
     pub call: Call,
 }
 
-// A fault, with zeros.
-fn fail(fault: Fault) -> Fields
-    ensures { result ≡ fails fault }
-{
-    Fields {
-        fault,
-        values: [0u16; MOST_FIELDS],
-        call: [0u8; Table::CALL_OCTETS],
-    }
-}
-
 // The one walk through a line that has as many fields as its description.
-fn walk_fields(line: &[u8], description: &[u16]) -> Fields
+#[tactic(auto, using(crate::proofs::Walk::walk_end, crate::proofs::NumberLaws::number_most))]
+fn walk_fields(line: &[u8], description: &[Kind]) -> Result<Fields, Fault>
     requires { (length line.now ≤ 255) × (length description.now ≤ most_fields) × (tabs line.now + 1 ≡ length description.now) }
     ensures { result ≡ walk description.now 0 line.now no_values no_call }
 {
     let mut values = [0u16; MOST_FIELDS];
     let mut call = [0u8; Table::CALL_OCTETS];
     let mut at: usize = 0;
-    let mut i: usize = 0;
-    while i < description.len() {
+    for (i, kind) in description.iter().enumerate() {
         let field = parts::first_field(&line[at..]);
-        let m = description[i];
-        if m == CALL {
-            let c = calls::read_call(field);
-            if !c.good {
-                return fail(Fault::BadField(i as u8 + 1));
+        let bad = Fault::BadField(i as u8 + 1);
+        match *kind {
+            Kind::Call => call = calls::read_call(field).ok_or(bad)?,
+            Kind::Number(most) => {
+                let value = numbers::read_number(field, u64::from(most)).ok_or(bad)?;
+                values[i] = value as u16;
             }
-            call = c.call;
-        } else {
-            let Number::Is(v) = numbers::read_number(field, m as u64) else {
-                return fail(Fault::BadField(i as u8 + 1));
-            };
-            values[i] = v as u16;
         }
-        at = at + field.len() + 1;
-        i += 1;
+        at += field.len() + 1;
     }
-    Fields {
-        fault: Fault::NoFault,
-        values,
-        call,
-    }
+    Ok(Fields { values, call })
 }
 
 // What a line says, by its description and the greatest length that it may have.
-pub fn read_fields(line: &[u8], longest: u8, description: &[u16]) -> Fields
+#[tactic(auto, using(crate::proofs::Walk::testing))]
+pub fn read_fields(line: &[u8], longest: u8, description: &[Kind]) -> Result<Fields, Fault>
     ensures { result ≡ read_fields longest description.now line.now }
 {
-    if (longest as usize) < line.len() {
-        return fail(Fault::TooLong);
+    if usize::from(longest) < line.len() {
+        return Err(Fault::TooLong);
     }
     if MOST_FIELDS < description.len() {
-        return fail(Fault::WrongCount);
+        return Err(Fault::WrongCount);
     }
-    if parts::count_tabs(line) as usize + 1 != description.len() {
-        return fail(Fault::WrongCount);
+    if usize::from(parts::count_tabs(line)) + 1 != description.len() {
+        return Err(Fault::WrongCount);
     }
     walk_fields(line, description)
 }
 
-// Writes a field from an index of the buffer on, and gives the index after it.
-fn put_field(out: &mut [u8], at: usize, m: u16, v: u16, call: Call) -> usize
-    requires { at + length (text m v call) ≤ length out.old }
-    ensures { (result ≡ at + length (text m v call)) × (out.new ≡ sets out.old at (text m v call)) }
+// Writes the text of a field at the front of the buffer, and gives its length.
+#[tactic(auto, using(crate::proofs::Hexadecimal::length_hex))]
+fn put_field(out: &mut [u8], kind: Kind, value: u16, call: Call) -> usize
+    requires { length (text kind value call) ≤ length out.old }
+    ensures { (result ≡ length (text kind value call)) × (out.new ≡ sets out.old 0 (text kind value call)) }
 {
-    if m == CALL {
-        calls::put_call(out, at, call)
-    } else {
-        numbers::put_number(out, at, v as u64)
+    match kind {
+        Kind::Call => calls::put_call(out, call),
+        Kind::Number(_) => numbers::put_number(out, u64::from(value)),
     }
 }
 
 // How many octets a field has; every call has 32.
-fn field_length(m: u16, v: u16) -> usize
-    ensures { result ≡ length (text m v no_call) }
+fn field_length(kind: Kind, value: u16) -> usize
+    ensures { result ≡ length (text kind value no_call) }
 {
-    if m == CALL {
-        32
-    } else {
-        numbers::digits(v as u64)
+    match kind {
+        Kind::Call => 32,
+        Kind::Number(_) => numbers::digits(u64::from(value)),
     }
-}
-
-// How many octets the fields of a line have, with the tabs between them.
-fn sum_lengths(description: &[u16], values: Values) -> usize
-    requires { (0 < length description.now) × (length description.now ≤ most_fields) }
-    ensures { result ≡ length (line_from description.now 0 values no_call) }
-{
-    let last = description.len() - 1;
-    let mut n: usize = 0;
-    let mut i: usize = 0;
-    while i < last {
-        n = n + field_length(description[i], values[i]) + 1;
-        i += 1;
-    }
-    n + field_length(description[last], values[last])
 }
 
 // How many octets a line has, whatever its call; 0 by a description of no field, or of too many.
-pub fn fields_length(description: &[u16], values: Values) -> usize
+#[tactic(auto, using(crate::proofs::Texts::measuring))]
+pub fn fields_length(description: &[Kind], values: Values) -> usize
     ensures { result ≡ length (line_of description.now values no_call) }
 {
-    if description.len() == 0 {
-        return 0;
-    }
     if MOST_FIELDS < description.len() {
         return 0;
     }
-    sum_lengths(description, values)
+    let Some((last, rest)) = description.split_last() else {
+        return 0;
+    };
+    let mut n: usize = 0;
+    for (i, kind) in rest.iter().enumerate() {
+        n += field_length(*kind, values[i]) + 1;
+    }
+    n + field_length(*last, values[rest.len()])
 }
 
 // Writes a line at the front of the buffer, where there is room for it, and gives its length.
-fn put_fields(out: &mut [u8], description: &[u16], values: Values, call: Call) -> usize
-    requires { (0 < length description.now) × (length description.now ≤ most_fields) × (length (line_from description.now 0 values call) ≤ length out.old) }
-    ensures { (result ≡ length (line_from description.now 0 values call)) × (out.new ≡ sets out.old 0 (line_from description.now 0 values call)) }
+#[tactic(auto, using(crate::proofs::Texts::putting))]
+fn put_fields(out: &mut [u8], description: &[Kind], fields: Fields) -> usize
+    requires { (length description.now ≤ most_fields) × (length (line_from description.now 0 fields.values fields.call) ≤ length out.old) }
+    ensures { (result ≡ length (line_from description.now 0 fields.values fields.call)) × (out.new ≡ sets out.old 0 (line_from description.now 0 fields.values fields.call)) }
 {
-    let last = description.len() - 1;
+    let Fields { values, call } = fields;
+    let Some((last, rest)) = description.split_last() else {
+        return 0;
+    };
     let mut p: usize = 0;
-    let mut i: usize = 0;
-    while i < last {
-        p = put_field(out, p, description[i], values[i], call);
-        out[p] = 9;
+    for (i, kind) in rest.iter().enumerate() {
+        p += put_field(&mut out[p..], *kind, values[i], call);
+        out[p] = b'\t';
         p += 1;
-        i += 1;
     }
-    put_field(out, p, description[last], values[last], call)
+    p + put_field(&mut out[p..], *last, values[rest.len()], call)
 }
 
 // Writes a line at the front of the buffer, and gives its length; in a buffer that is too short it writes nothing, and gives 0. Octets
-// beyond the line stay.
-pub fn write_fields(out: &mut [u8], description: &[u16], values: Values, call: Call) -> usize
-    ensures { Writes out.old (line_of description.now values call) result out.new }
+// beyond the line stay. 0, and no None, for nothing written: C gets this count of `park_step` as it is.
+#[tactic(auto, using(crate::proofs::Texts::writing))]
+pub fn write_fields(out: &mut [u8], description: &[Kind], fields: Fields) -> usize
+    ensures { Writes out.old (line_of description.now fields.values fields.call) result out.new }
 {
-    let n = fields_length(description, values);
-    if n == 0 {
+    if MOST_FIELDS < description.len() {
         return 0;
     }
-    if out.len() < n {
+    if out.len() < fields_length(description, fields.values) {
         return 0;
     }
-    put_fields(out, description, values, call)
+    put_fields(out, description, fields)
 }

@@ -1,7 +1,8 @@
 -- Looking through the places of an image, one after the other: what the places from i on say, by place i and those after it.
-use mathlib.Core.Path.{◌≡◌, refl, ap, ◌∙◌}
+use mathlib.Core.Path.{◌≡◌, ap, ◌∙◌}
 use mathlib.Core.Bool.{Bool, true, false, cond, not, ◌&&◌}
 use mathlib.Core.List.{List}
+use Rattle.std.proofs.Math.Bool.{and-true, and-false}
 use mathlib.Core.Logic.{inl, inr}
 use Prim.Native.Nat.{ℕ, ◌+◌, ◌<◌, ◌≤◌}
 use native.Mathlib.Nat.{zero-add}
@@ -9,12 +10,11 @@ use native.Mathlib.Omega.{arith}
 use lib.Dec.{eqb}
 use lib.ListN.{length, get_or, take, drop}
 use lib.Seq.{take_all}
+use Rattle.std.specs.Prelude.{Option, Some, None}
 use Rattle.laws.proofs.Lists.{fold_skip, fold_rest}
 use Rattle.table.specs.declared.State.{State}
 use Rattle.table.specs.declared.Side.{Side}
 use Rattle.table.specs.declared.Record.{Record}
-use Rattle.table.specs.declared.Found.{Found}
-use Rattle.table.specs.declared.Found.TheVariants.{At, Nothing}
 use Rattle.table.specs.Places.{place_count, side_at, first_index, end_index, call_octets, blank}
 use Rattle.table.specs.Search.{same_call, holds, is_at, lowest, total}
 use Rattle.table.specs.Ranks.{held_on, calls_on}
@@ -31,12 +31,12 @@ module _ (s : List ℕ) (i : ℕ) where
   from_place = drop i (table_from s).places
 
   module _ (p : ℕ → Record → Bool) where
-    pub lowest_place : i < place_count → lowest p i from_place ≡ cond (p i (record_in s i)) (At i) (lowest p (i + 1) (drop (i + 1) (table_from s).places))
+    pub lowest_place : i < place_count → lowest p i from_place ≡ cond (p i (record_in s i)) (Some i) (lowest p (i + 1) (drop (i + 1) (table_from s).places))
     lowest_place h =
         lowest_at p blank (table_from s).places i (omega (arith, size_from s))
-        ∙ ap (λ (r : Record). cond (p i r) (At i) (lowest p (i + 1) (drop (i + 1) (table_from s).places))) (record_at_lem s i h)
+        ∙ ap (λ (r : Record). cond (p i r) (Some i) (lowest p (i + 1) (drop (i + 1) (table_from s).places))) (record_at_lem s i h)
 
-    pub lowest_past : place_count ≤ i → lowest p i from_place ≡ Nothing
+    pub lowest_past : place_count ≤ i → lowest p i from_place ≡ None
     lowest_past h = lowest_end p blank (table_from s).places i (omega (arith, size_from s))
 
   module _ (f : ℕ → Record → ℕ) where
@@ -68,14 +68,14 @@ module _ (s : List ℕ) (a : Side) where
   after_last j low h = side_outside a j (omega (arith, h, size_from s)) (inr low)
 
   module _ (u : State) where
-    not_at : (j : ℕ) → (side_at j ≡ a → ⊥) → (b : Found) → cond (is_at a u j (get_or records j blank)) (At j) b ≡ b
+    not_at : (j : ℕ) → (side_at j ≡ a → ⊥) → (b : Option ℕ) → cond (is_at a u j (get_or records j blank)) (Some j) b ≡ b
     not_at j other b = rw (other_side (side_at j) a other)
 
     pub lowest_first : lowest (is_at a u) 0 records ≡ lowest (is_at a u) (first_index a) (drop (first_index a) records)
-    lowest_first = fold_skip (λ i r later. cond (is_at a u i r) (At i) later) Nothing blank records (first_index a) first_room (λ j h. not_at j (before_first j h))
+    lowest_first = fold_skip (λ i r later. cond (is_at a u i r) (Some i) later) None blank records (first_index a) first_room (λ j h. not_at j (before_first j h))
 
-    pub lowest_last : lowest (is_at a u) (end_index a) (drop (end_index a) records) ≡ Nothing
-    lowest_last = fold_rest (λ i r later. cond (is_at a u i r) (At i) later) Nothing blank records (end_index a) side_room (λ j low h. not_at j (after_last j low h))
+    pub lowest_last : lowest (is_at a u) (end_index a) (drop (end_index a) records) ≡ None
+    lowest_last = fold_rest (λ i r later. cond (is_at a u i r) (Some i) later) None blank records (end_index a) side_room (λ j low h. not_at j (after_last j low h))
 
   not_held : (j : ℕ) → (side_at j ≡ a → ⊥) → (b : ℕ) → held_on a j (get_or records j blank) + b ≡ b
   not_held j other b = rw (other_side (side_at j) a other) (zero-add b)
@@ -88,24 +88,16 @@ module _ (s : List ℕ) (a : Side) where
 
 -- ---- a place holds a call by its octets: the call first, and then the state
 
-and_true : (b : Bool) → (b && true) ≡ b
-and_true true = refl
-and_true false = refl
-
-and_false : (b : Bool) → (b && false) ≡ false
-and_false true = refl
-and_false false = refl
-
 module _ (s : List ℕ) (i : ℕ) (call : List ℕ) where
   by_octets : holds call (record_in s i) ≡ (not (eqb (state_octet s i) 0) && same_call (call_at s i) call)
   unfolding record_from
   by_octets = rw (free_octet s (place_start i))
 
   pub holds_same : same_call (call_at s i) call ≡ true → holds call (record_in s i) ≡ not (eqb (state_octet s i) 0)
-  holds_same h = by_octets ∙ rw h (and_true (not (eqb (state_octet s i) 0)))
+  holds_same h = by_octets ∙ rw h (and-true (not (eqb (state_octet s i) 0)))
 
   pub holds_other : same_call (call_at s i) call ≡ false → holds call (record_in s i) ≡ false
-  holds_other h = by_octets ∙ rw h (and_false (not (eqb (state_octet s i) 0)))
+  holds_other h = by_octets ∙ rw h (and-false (not (eqb (state_octet s i) 0)))
 
 -- a call is all of its octets
 pub whole_call : (call : List ℕ) → length call ≡ call_octets → take call_octets (drop 0 call) ≡ call

@@ -17,10 +17,11 @@ use Rattle.laws.proofs.Lists.{below_get, below_make, listed_size, listed_at}
 use Rattle.laws.proofs.Runs.{sets_over}
 use Rattle.table.specs.declared.Record.{Record}
 use Rattle.table.specs.declared.Table.{Table}
-use Rattle.table.specs.Places.{state_number, is_state, state_of, place_count, call_octets, blank, empty_table, record_at, rank_at}
+use Rattle.table.specs.Places.{state_number, is_state, state_of, place_count, call_octets, blank, record_at, rank_at}
 use Rattle.table.specs.Sound.{is_sound}
 use Rattle.table.proofs.States.{state_below, state_back, number_back}
-use Rattle.image.specs.declared.ReadImage.{ReadImage}
+use Rattle.std.specs.Prelude.{Result, Ok, Err}
+use Rattle.table.specs.declared.Unsound.{Unsound}
 use Rattle.image.specs.Image.{connection_offset, count_offset, record_octets, place_octets, image_octets, place_start, rank_index, Fit, pair_of, octets_of, octets_of_all, image_of, pair_at, record_from, state_octet, record_in, rank_octet, table_from, states_fit, places_sound, is_sound_image}
 use Rattle.image.specs.Round.{Octets, ImageLength, TableReadsBack, ImageReadsBack, ImageTested, OneImage, TableReadFits, ImageWritesBack}
 use Rattle.image.proofs.Fills.{Calls, length_octets, length_all, front, back, all_with, all_split, front_long}
@@ -182,8 +183,8 @@ image_tested t f = rw (eq-eqb (length (image_of t)) image_octets (length_image t
 -- READING WHAT WAS WRITTEN
 pub image_reads_back : ImageReadsBack
 image_reads_back t f h =
-    let made : Table → ReadImage = λ u. record { number = 0; table = u } in
-    ap (λ (b : Bool). cond b (made (table_from (image_of t))) (record { number = 25; table = empty_table })) (image_tested t f ∙ h) ∙ ap made (table_back t f)
+    let refused : Result Table Unsound = Err (record {}) in
+    ap (λ (b : Bool). cond b (Ok (table_from (image_of t))) refused) (image_tested t f ∙ h) ∙ ap (λ (u : Table). Ok u) (table_back t f)
 
 -- ONE IMAGE, ONE TABLE: soundness is not needed
 pub one_image : OneImage

@@ -1,16 +1,17 @@
 -- The table image (document 01, "Image: per place 21 octets, place 1 first: state, call, connection, count, the last two high octet
 -- first."; document 02, Q-4: "The image grows by one octet per place, after the count, to 2,112."): reading and writing it, with refusal 25,
 -- and a record put anew in it. Places are counted from 0 here, as indexes are.
-use Rattle.std.specs.Prelude.{◌≡◌, Bool, cond, ◌&&◌, List, [], ◌∷◌, ◌++◌, ℕ, zero, suc, ◌+◌, ◌*◌, ◌/◌, ◌%◌, ◌<◌, eqb, length, get_or, set, take, drop}
+use Rattle.std.specs.Prelude.{◌≡◌, Bool, cond, ◌&&◌, List, [], ◌∷◌, ◌++◌, ℕ, zero, suc, ◌+◌, ◌*◌, ◌/◌, ◌%◌, ◌<◌, eqb, length, get_or, set, take, drop, Result, Ok, Err, ⊤}
 use Rattle.std.proofs.lemmas.List.Edits.{sets}
+use Rattle.std.specs.Result.{result_unwrap_or}
 use Rattle.laws.specs.Lists.{below, listed}
+use Rattle.table.specs.declared.Unsound.{Unsound}
 use Rattle.table.specs.declared.Side.{Side}
 use Rattle.table.specs.declared.Record.{Record}
 use Rattle.table.specs.declared.Table.{Table}
 use Rattle.table.specs.Places.{state_number, is_free, is_state, state_of, place_count, side_at, call_octets, empty_table, record_at}
-use Rattle.table.specs.Sound.{is_sound}
+use Rattle.table.specs.Sound.{is_sound, number_said}
 use Rattle.table.specs.Ranks.{calls_on, lowered, Change, comes, goes, neither, change_of}
-use Rattle.image.specs.declared.ReadImage.{ReadImage}
 
 -- ---- how large it is
 
@@ -67,9 +68,13 @@ pub record Fit (t : Table) : Type 0 where
 abbrev pub is_written : Table → List ℕ → Bool
 is_written t buffer = eqb (length buffer) image_octets && is_sound t
 
--- 0, or the refusal
+-- done, or the refusal
+abbrev pub write_image : Table → List ℕ → Result ⊤ Unsound
+write_image t buffer = cond (is_written t buffer) (Ok tt) (Err (record {}))
+
+-- 0, or the refusal's number
 abbrev pub written_number : Table → List ℕ → ℕ
-written_number t buffer = cond (is_written t buffer) 0 25
+written_number t buffer = number_said (write_image t buffer)
 
 -- ".. leaves the buffer as found"
 abbrev pub written : Table → List ℕ → List ℕ
@@ -115,9 +120,12 @@ places_sound s = states_fit s && is_sound (table_from s)
 abbrev pub is_sound_image : List ℕ → Bool
 is_sound_image s = eqb (length s) image_octets && places_sound s
 
--- "Reading a refused image gives the empty table"
-abbrev pub read_image : List ℕ → ReadImage
-read_image s = cond (is_sound_image s) (record { number = 0; table = table_from s }) (record { number = 25; table = empty_table })
+abbrev pub read_image : List ℕ → Result Table Unsound
+read_image s = cond (is_sound_image s) (Ok (table_from s)) (Err (record {}))
+
+-- "Reading a refused image gives the empty table": what is said of it, with its number (`number_said`)
+abbrev pub table_said : List ℕ → Table
+table_said s = result_unwrap_or (read_image s) empty_table
 
 -- ---- a record put anew, in an image of the right length: what `put` does to a table, done to its octets
 

@@ -1,7 +1,7 @@
 -- The round trips of tables and images: a table's image reads back as that table, and the table that is read from an image is written back octet
 -- for octet. With them: what is put anew in an image is put anew in its table. Each statement is proved under the name that stands beside it,
 -- in `proofs/Round.antt`, the last two in `proofs/Puts.antt`. Of a table in code its type says `Fit`, and of octets that they are below 256.
-use Rattle.std.specs.Prelude.{◌≡◌, true, List, ℕ, ◌<◌, length, get_or}
+use Rattle.std.specs.Prelude.{◌≡◌, true, Ok, List, ℕ, ◌<◌, length, get_or}
 use Rattle.table.specs.declared.Record.{Record}
 use Rattle.table.specs.declared.Table.{Table}
 use Rattle.table.specs.Places.{place_count, call_octets}
@@ -25,7 +25,7 @@ TableReadsBack = (t : Table) → Fit t → table_from (image_of t) ≡ t
 
 -- `image_reads_back`: a sound table's image is read, as that table
 abbrev pub ImageReadsBack : Type 0
-ImageReadsBack = (t : Table) → Fit t → is_sound t ≡ true → read_image (image_of t) ≡ record { number = 0; table = t }
+ImageReadsBack = (t : Table) → Fit t → is_sound t ≡ true → read_image (image_of t) ≡ Ok t
 
 -- `test_of_image`: the test of a table's image is the test of the table
 abbrev pub ImageTested : Type 0

@@ -17,10 +17,3 @@ pub const RECORD_OCTETS: usize = COUNT_OFFSET + 2;
 pub const PLACE_OCTETS: usize = RECORD_OCTETS + 1;
 
 pub const IMAGE_OCTETS: usize = Table::PLACES * PLACE_OCTETS;
-
-// What reading an image gives: number 0 and its table, or 25 and the empty table.
-#[derive(Clone, Copy)]
-pub struct ReadImage {
-    pub number: u8,
-    pub table: Table,
-}

@@ -1,16 +1,16 @@
 -- An event as the lamps see it: it is refused, and nothing is sent; or it is done at one place, and what is sent goes by the move of that place, of
 -- which there are five (`Move`, crate `step`). All that is promised of the lamps goes by these cases.
-use Rattle.std.proofs.Common.{◌≡◌, ℕ, ◌+◌, ◌-◌, ◌<◌, ◌≤◌, Bool, true, false, eqb, sym, refl, ap, ◌∙◌, arith, ne_eqb, eqb-true}
+use Rattle.std.proofs.Common.{◌≡◌, ℕ, ◌+◌, ◌≤◌, Bool, true, false, eqb, Option, None, Some, sym, refl, ap, ◌∙◌, arith, ne_eqb, eqb-true}
 use borrow.Author.Tests.{eqb-false}
 use Rattle.laws.proofs.Bools.{never}
 use Rattle.table.specs.declared.State.{State}
 use Rattle.table.specs.declared.State.TheVariants.{Free, ParkWaiting, LineWaiting, Requested, RemoteRequested, HandedOver}
 use Rattle.table.specs.declared.Table.{Table}
 use Rattle.table.specs.declared.Place.{Place}
-use Rattle.table.specs.Places.{state_number, is_free, record_at, place_count, index_of}
+use Rattle.table.specs.Places.{state_number, is_free, record_at, place_count}
 use Rattle.events.specs.declared.Event.{Event}
 use Rattle.events.specs.declared.rule.Rule.{Rule}
-use Rattle.events.specs.declared.rule.Rule.TheVariants.{Start, Unknown}
+use Rattle.events.specs.declared.rule.Rule.TheVariants.{Start}
 use Rattle.events.specs.declared.rule.Rule.TheVariants as Rules
 use Rattle.events.specs.Rule.{rule_of}
 use Rattle.events.proofs.Refusals.{refused_not_0}
@@ -18,37 +18,30 @@ use Rattle.events.proofs.RuleLaws.{by_kind}
 use Rattle.step.specs.declared.Step.{Step}
 use Rattle.step.specs.Step.{step_of}
 use Rattle.step.specs.Promises.{Full, offered, Move, starts, goes_on, hands_over, ends, is_left, index_at, AtOnePlace}
-use Rattle.table.proofs.Sides.{place_number, place_index, less_one}
+use Rattle.table.proofs.Sides.{place_number, place_index}
 use Rattle.step.proofs.Stepped.{Stepped, kept, begun, ended, went_on, stepped}
 use Rattle.step.proofs.Promises.{refusal_keeps, accepted_at_one_place}
+use Rattle.lamps.specs.declared.members.Indication.{Indication}
 use Rattle.lamps.specs.declared.members.Indication.TheVariants.{On, Off}
 use Rattle.lamps.specs.declared.members.Lamps.{Lamps}
-use Rattle.lamps.specs.declared.notice.Asks.{Asks}
-use Rattle.lamps.specs.declared.notice.Asks.TheVariants.{NoOne, Each}
 use Rattle.lamps.specs.Notice.{starts_stay, is_over, had_off, asks_for, unlit, lit_by}
 use Rattle.lamps.specs.Served.{lit_of}
 
 -- ---- the place of an accepted event
 
--- the number of a place, and its index
-pub record Inside (p : Place) : Type 0 where
-  pub from_1 : 1 ≤ p.0
-  pub to_place_count : p.0 - 1 < place_count
-  pub index : p.0 - 1 ≡ index_of p.0
-
-pub accepted_inside : (t : Table) (e : Event) (s : Step) → Full t → s ≡ step_of t e → s.answer.number ≡ 0 → Inside s.answer.place
+pub accepted_inside : (t : Table) (e : Event) (s : Step) → Full t → s ≡ step_of t e → s.answer.number ≡ 0 → (1 ≤ s.answer.place.0) × (s.answer.place.0 ≤ place_count)
 accepted_inside t e s full q h =
     let x = accepted_at_one_place t e full (rw q at h) in
     let number : s.answer.place.0 ≡ index_at (step_of t e) + 1 =
     ap (λ (u : Step). u.answer.place.0) q ∙ ap (λ (p : Place). p.0) x.place ∙ place_number (index_at (step_of t e)) x.inside in
-    record { from_1 = omega arith; to_place_count = omega (arith, x.inside); index = less_one s.answer.place.0 (omega arith) }
+    (omega (arith, number), omega (arith, number, x.inside))
 
 -- ---- which events start a stay
 
-abbrev is_start : Rule → Bool
-is_start (Start d) = true
-is_start (Rules.On s) = false
-is_start Unknown = false
+abbrev is_start : Option Rule → Bool
+is_start (Some (Start d)) = true
+is_start (Some (Rules.On s)) = false
+is_start None = false
 
 kind_starts : (kind : ℕ) → starts_stay kind ≡ is_start (rule_of kind)
 kind_starts =
@@ -82,12 +75,12 @@ on_offer Requested h = record { held = refl; due = refl; going = refl }
 on_offer RemoteRequested h = record { held = refl; due = refl; going = refl }
 on_offer HandedOver h = never h
 
-abbrev pub sends : {before after : State} → Move before after → Asks
-sends (starts o) = Each On
-sends (goes_on o p) = NoOne
-sends (hands_over o) = Each Off
-sends (ends o) = Each Off
-sends is_left = NoOne
+abbrev pub sends : {before after : State} → Move before after → Option Indication
+sends (starts o) = Some On
+sends (goes_on o p) = None
+sends (hands_over o) = Some Off
+sends (ends o) = Some Off
+sends is_left = None
 
 asks_by_move : (kind : ℕ) {before after : State} (m : Move before after) → starts_stay kind ≡ is_free before → asks_for kind before (state_number after) ≡ sends m
 asks_by_move kind (starts o) q = rw q

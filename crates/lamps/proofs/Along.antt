@@ -1,7 +1,7 @@
 -- Along a run: what is folded over the accepted events can be folded input by input (`fold_step`), and so are the stays of demand 3 (`stays_by`). The
 -- table keeps the invariant of that crate and the lamps their length (`Good`). An accepted event makes a stay anew or makes one longer (`Grown`), and so
 -- a number of each input that is the growth of a number of the stays adds up to it (`adds_up`).
-use Rattle.std.proofs.Common.{◌≡◌, ℕ, ◌+◌, Bool, true, false, cond, ◌||◌, eqb, List, [], ◌∷◌, ◌++◌, length, get_or, sym, refl, ap, ◌∙◌, subst, zero-add, arith, length-set}
+use Rattle.std.proofs.Common.{◌≡◌, ℕ, ◌+◌, Bool, true, false, cond, ◌||◌, eqb, List, [], ◌∷◌, ◌++◌, Option, None, Some, length, get_or, sym, refl, ap, ◌∙◌, subst, zero-add, arith, length-set}
 use lib.ListN.{length-replicate}
 use Rattle.table.specs.declared.State.{State}
 use Rattle.table.specs.declared.State.TheVariants.{HandedOver}
@@ -28,9 +28,8 @@ use Rattle.stays.proofs.EachStay.{answer_of}
 use Rattle.stays.proofs.Requester.{part_agrees}
 use Rattle.stays.proofs.Weights.{weight, ended_weight, weight_starts, weight_goes_on, weight_ends, ended_snoc}
 use Rattle.lamps.specs.declared.Endpoint.{Endpoint}
+use Rattle.lamps.specs.declared.members.Indication.{Indication}
 use Rattle.lamps.specs.declared.members.Lamps.{Lamps}
-use Rattle.lamps.specs.declared.notice.Asks.{Asks}
-use Rattle.lamps.specs.declared.notice.Asks.TheVariants.{NoOne, Each}
 use Rattle.lamps.specs.declared.reply.Reply.{Reply}
 use Rattle.lamps.specs.declared.reply.Settlement.{Settlement}
 use Rattle.lamps.specs.Members.{dark_lamp}
@@ -78,9 +77,9 @@ pub record Good (s : Endpoint) (st : Stays Act) : Type 0 where
 pub full : {s : Endpoint} {st : Stays Act} → Good s st → Full s.table
 full g = g.inv.shows.1.full
 
-lit_wide : (l : Lamps) (i : ℕ) (a : Answer) (asks : Asks) → length (lit_by l i a asks).lamps.places ≡ length l.places
-lit_wide l i a NoOne = refl
-lit_wide l i a (Each n) = length-set l.places i _
+lit_wide : (l : Lamps) (i : ℕ) (a : Answer) (asks : Option Indication) → length (lit_by l i a asks).lamps.places ≡ length l.places
+lit_wide l i a None = refl
+lit_wide l i a (Some n) = length-set l.places i _
 
 settled_wide : {l : Lamps} {r : Reply} {z : Settlement} → Settling l r z → length z.lamps.places ≡ length l.places
 settled_wide (refuses w) = refl

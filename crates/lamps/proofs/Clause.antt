@@ -1,53 +1,47 @@
 -- Clause 7.6 by place and member: a request changes every member at its place and none elsewhere, a reply one member at one place.
-use Rattle.std.proofs.Common.{◌≡◌, ℕ, zero, suc, ◌+◌, ◌-◌, ◌<◌, Bool, true, false, cond, eqb, List, [], ◌∷◌, length, get_or, set, replicate, sym, refl, ap, ◌∙◌, subst, arith, get_or-set_other, get_or-set_same, eq-eqb, ne_eqb}
+use Rattle.std.proofs.Common.{◌≡◌, ℕ, zero, suc, ◌+◌, ◌-◌, ◌<◌, Bool, true, false, cond, eqb, List, [], ◌∷◌, Option, None, Some, length, get_or, set, sym, refl, ap, ◌∙◌, subst, arith, get_or-set_other, get_or-set_same, eq-eqb, ne_eqb}
 use native.Mathlib.Decide.{ℕ_discrete}
 use lib.ListN.{get_or-replicate, get_or-map}
+use Rattle.laws.proofs.Bools.{and_left}
 use Rattle.table.specs.Places.{place_at, place_count}
 use Rattle.table.proofs.Sides.{place_number}
 use Rattle.events.specs.declared.Answer.{Answer}
 use Rattle.events.specs.Turn.{up}
 use Rattle.step.specs.Step.{step_of}
 use Rattle.step.specs.Promises.{index_at}
-use Rattle.stays.proofs.Part.{getD-free}
 use Rattle.lamps.specs.declared.members.Indication.{Indication}
+use Rattle.lamps.specs.declared.members.Indication.TheVariants.{On, Off}
+use Rattle.lamps.specs.declared.members.Timer.{Timer}
 use Rattle.lamps.specs.declared.members.Gp.{Gp}
 use Rattle.lamps.specs.declared.members.Lamp.{Lamp}
 use Rattle.lamps.specs.declared.members.Lamps.{Lamps}
-use Rattle.lamps.specs.declared.notice.Asks.{Asks}
-use Rattle.lamps.specs.declared.notice.Asks.TheVariants.{NoOne, Each}
 use Rattle.lamps.specs.declared.notice.Lit.{Lit}
 use Rattle.lamps.specs.declared.reply.Reply.{Reply}
 use Rattle.lamps.specs.declared.reply.Settlement.{Settlement}
-use Rattle.lamps.specs.Members.{awaits, timer_in, gp_in, gp_of, timers_of, is_member, blank_lamp, lamp_at}
+use Rattle.lamps.specs.Members.{timer_of, awaits, timer_in, gp_in, gp_of, timers_of, is_member, blank_lamp, lamp_at}
 use Rattle.lamps.specs.Notice.{new_lamp, unlit, asked, lit_by}
-use Rattle.lamps.specs.Reply.{replied, settled_at, settled_of}
+use Rattle.lamps.specs.Reply.{same_request, replied, settled_at, settled_of}
 use Rattle.lamps.specs.Served.{lit_of}
 use Rattle.lamps.specs.Runs.{event, reply}
-use Rattle.lamps.specs.Clause.{replies, nothing, next, started_by, stopped_by, member_in, member_at, asks_at, settles_at, FollowsClause}
+use Rattle.lamps.specs.Clause.{replies, nothing, next, started_by, stopped_by, member_in, member_at, asks_at, asks_start, asks_stop, settles_at, reply_stops, FollowsClause}
 use Rattle.lamps.proofs.Numbers.{one_to}
 use Rattle.lamps.proofs.Accepted.{Came, refused, done, came, sends}
 use Rattle.lamps.proofs.Settling.{no_member, none_pending, Lowest, Settling, refuses, settles, settling}
 
 -- of the timers at a place, that of a member
-timer_at : (x : Lamp) (m : ℕ) → get_or (timers_of x) (m - 1) 0 ≡ timer_in (gp_of x m)
+timer_at : (x : Lamp) (m : ℕ) → get_or (timers_of x) (m - 1) None ≡ timer_in (gp_of x m)
 timer_at x m = get_or-map (λ pending. timer_in (gp_in x.indication pending)) x.pending (m - 1) false
 
 -- ---- a request
 
 -- what a notice that left these lamps says of a member at a place
 record Asking (l : Lamps) (z : Lit) (i m : ℕ) : Type 0 where
-  state : member_at z.lamps i m ≡ next (asks_at z.notice z.notice.asks i) (member_at l i m)
-  started : cond (eqb z.notice.place.0 (i + 1)) (get_or z.notice.started (m - 1) 0) 0 ≡ started_by (asks_at z.notice z.notice.asks i)
-  stopped : cond (eqb z.notice.place.0 (i + 1)) (get_or z.notice.stopped (m - 1) 0) 0 ≡ stopped_by (asks_at z.notice z.notice.asks i) (member_at l i m)
-
-either_way : (b : Bool) (n : ℕ) → n ≡ 0 → cond b n 0 ≡ 0
-either_way true n h = h
-either_way false n h = refl
+  state : member_at z.lamps i m ≡ next (asks_at z.notice i) (member_at l i m)
+  started : asks_start z.notice i m ≡ started_by (asks_at z.notice i)
+  stopped : asks_stop z.notice i m ≡ stopped_by (asks_at z.notice i) (member_at l i m)
 
 none_asked : (l : Lamps) (i m : ℕ) → Asking l (unlit l) i m
-none_asked l i m =
-    let none = either_way (eqb 0 (i + 1)) (get_or (replicate 8 0) (m - 1) 0) (getD-free 0 8 (m - 1)) in
-    record { state = refl; started = none; stopped = none }
+none_asked l i m = record { state = refl; started = refl; stopped = refl }
 
 module _ (l : Lamps) (wide : length l.places ≡ place_count) (a : Answer) (n : Indication) (i j m : ℕ) (inside : j < place_count) (at : a.place ≡ place_at j) (who : is_member m ≡ true) where
   abbrev new : Lamp
@@ -79,15 +73,19 @@ module _ (l : Lamps) (wide : length l.places ≡ place_count) (a : Answer) (n : 
             stopped = rw other;
           }
 
-lit_asked : (l : Lamps) → length l.places ≡ place_count → (a : Answer) (asks : Asks) (i j m : ℕ) → j < place_count → a.place ≡ place_at j → is_member m ≡ true → Asking l (lit_by l j a asks) i m
-lit_asked l wide a NoOne i j m inside at who = none_asked l i m
-lit_asked l wide a (Each n) i j m inside at who = all_asked l wide a n i j m inside at who
+lit_asked : (l : Lamps) → length l.places ≡ place_count → (a : Answer) (asks : Option Indication) (i j m : ℕ) → j < place_count → a.place ≡ place_at j → is_member m ≡ true → Asking l (lit_by l j a asks) i m
+lit_asked l wide a None i j m inside at who = none_asked l i m
+lit_asked l wide a (Some n) i j m inside at who = all_asked l wide a n i j m inside at who
 
 -- ---- a reply
 
 record Replying (l : Lamps) (r : Reply) (z : Settlement) (i m : ℕ) : Type 0 where
-  state : member_at z.lamps i m ≡ next (cond (settles_at z r i m) replies nothing) (member_at l i m)
-  stopped : cond (settles_at z r i m) z.stopped 0 ≡ stopped_by (cond (settles_at z r i m) replies nothing) (member_at l i m)
+  state : member_at z.lamps i m ≡ next (cond (settles_at z.answer r i m) replies nothing) (member_at l i m)
+  stopped : reply_stops z.answer r i m ≡ stopped_by (cond (settles_at z.answer r i m) replies nothing) (member_at l i m)
+
+runs : (n : Indication) → Some (timer_of n) ≡ timer_in (awaits n)
+runs On = refl
+runs Off = refl
 
 cleared : (l : List Bool) (i : ℕ) → get_or (set l i false) i false ≡ false
 cleared [] i = refl
@@ -122,8 +120,10 @@ module _ (l : Lamps) (wide : length l.places ≡ place_count) (r : Reply) (i m :
                 record { state = rw (here, else) (ap (λ (y : Lamp). member_in y m) put ∙ rw (kept, q)); stopped = rw (here, else) }
             of_member (yes d) =
                 let this : eqb r.member m ≡ true = eq-eqb r.member m d in
+                let still = and_left (get_or (lamp_at l j).pending (r.member - 1) false) (same_request r (lamp_at l j)) x.pending in
+                let stood : gp_of (lamp_at l i) m ≡ awaits (lamp_at l j).indication = rw (q, ← d, still) in
                 let none : get_or left.pending (m - 1) false ≡ false = rw (← d) (cleared (lamp_at l j).pending (r.member - 1)) in
-                record { state = rw (here, this) (ap (λ (y : Lamp). member_in y m) put ∙ rw (none, q)); stopped = rw (here, this) (rw (d, q)) }
+                record { state = rw (here, this) (ap (λ (y : Lamp). member_in y m) put ∙ rw (none, q)); stopped = rw (here, this) (runs (lamp_at l j).indication ∙ sym (ap timer_in stood)) }
 
   reply_follows : {z : Settlement} → Settling l r z → Replying l r z i m
   reply_follows (refuses (no_member w)) = record { state = refl; stopped = refl }
@@ -144,8 +144,8 @@ follows_clause s (event e) full i m inside who =
         (lit_asked s.lamps full.1 (step_of s.table e).answer (sends x.move) i (index_at (step_of s.table e)) m x.inside x.place who)
 follows_clause s (reply r) full i m inside who =
     let f = reply_follows s.lamps full.1 r i m who (settling s.lamps full.1 r) in
-    record { state = f.state; started = by (settles_at (settled_of s.lamps r) r i m); stopped = f.stopped }
+    record { state = f.state; started = by (settles_at (settled_of s.lamps r).answer r i m); stopped = f.stopped }
   where
-    by : (b : Bool) → ◌≡◌ {A = ℕ} 0 (started_by (cond b replies nothing))
+    by : (b : Bool) → ◌≡◌ {A = Option Timer} None (started_by (cond b replies nothing))
     by true = refl
     by false = refl

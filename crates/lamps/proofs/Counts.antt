@@ -1,6 +1,6 @@
 -- One On for every stay begun and one Off for every stay ended or handed over; begun, ended and handed over, counted from the answers. Each is the
 -- growth of a number of the stays by one event (`Along`), by the five moves.
-use Rattle.std.proofs.Common.{◌≡◌, ℕ, ◌+◌, Bool, true, false, cond, ◌&&◌, ◌||◌, eqb, List, [], ◌∷◌, ◌++◌, sym, refl, ap, ◌∙◌, zero-add, arith}
+use Rattle.std.proofs.Common.{◌≡◌, ℕ, ◌+◌, Bool, true, false, cond, ◌&&◌, ◌||◌, eqb, List, [], ◌∷◌, ◌++◌, Option, None, Some, sym, refl, ap, ◌∙◌, zero-add, arith}
 use Rattle.laws.proofs.Bools.{never, not_both}
 use Rattle.table.specs.declared.State.{State}
 use Rattle.table.specs.declared.Table.{Table}
@@ -19,14 +19,11 @@ use Rattle.lamps.specs.declared.Endpoint.{Endpoint}
 use Rattle.lamps.specs.declared.members.Indication.{Indication}
 use Rattle.lamps.specs.declared.members.Indication.TheVariants.{On, Off}
 use Rattle.lamps.specs.declared.members.Lamps.{Lamps}
-use Rattle.lamps.specs.declared.notice.Asks.{Asks}
-use Rattle.lamps.specs.declared.notice.Asks.TheVariants.{NoOne, Each}
 use Rattle.lamps.specs.declared.notice.Lit.{Lit}
-use Rattle.lamps.specs.declared.notice.Notice.{Notice}
-use Rattle.lamps.specs.Members.{is_member}
-use Rattle.lamps.specs.Notice.{starts_stay, is_over, no_notice, unlit, lit_by}
+use Rattle.lamps.specs.Members.{same_indication, is_member}
+use Rattle.lamps.specs.Notice.{starts_stay, is_over, unlit, lit_by}
 use Rattle.lamps.specs.Served.{start, lit_of}
-use Rattle.lamps.specs.Runs.{Input, event, reply, sum, events_in, to_member, is_for, sent_to}
+use Rattle.lamps.specs.Runs.{Input, event, reply, sum, events_in, is_for, sent_to}
 use Rattle.lamps.specs.Promises.{call_in, is_over_stay, EachOn, EachOff, counted, was_handed_over, AreSameNumbers}
 use Rattle.lamps.proofs.Accepted.{on_offer, sends, Came, refused, done, came}
 use Rattle.lamps.proofs.Along.{act_of, stays_by, Good, full, good_start, OldStay, Grown, anew, longer, handed_snoc, grown, adds_up}
@@ -54,6 +51,11 @@ over_snoc old x = ap is_over (state_snoc 0 old x)
 
 -- ---- by the moves
 
+-- what a move sends is an On, or an Off
+abbrev is_asked : Indication → Option Indication → Bool
+is_asked n None = false
+is_asked n (Some k) = same_indication n k
+
 handed_anew : {before after : State} (m : Move before after) → is_free before ≡ true → eqb (state_number after) 5 ≡ false
 handed_anew (starts {after} o) h = (on_offer after o).due
 handed_anew (goes_on {before} o p) h = absurd (not_both h (on_offer before o).held)
@@ -63,21 +65,21 @@ handed_anew is_left h = refl
 
 -- v tells whether the call is counted
 module _ (v : Bool) where
-  on_anew : {before after : State} (m : Move before after) → is_free before ≡ true → one_if (is_for On (sends m) && v) ≡ one_if v
+  on_anew : {before after : State} (m : Move before after) → is_free before ≡ true → one_if (is_asked On (sends m) && v) ≡ one_if v
   on_anew (starts o) h = refl
   on_anew (goes_on {before} o p) h = absurd (not_both h (on_offer before o).held)
   on_anew (hands_over {before} o) h = absurd (not_both h (on_offer before o).held)
   on_anew (ends {before} o) h = absurd (not_both h (on_offer before o).held)
   on_anew is_left h = never h
 
-  on_longer : {before after : State} (m : Move before after) → is_free before ≡ false → one_if (is_for On (sends m) && v) ≡ 0
+  on_longer : {before after : State} (m : Move before after) → is_free before ≡ false → one_if (is_asked On (sends m) && v) ≡ 0
   on_longer (starts o) h = never (sym h)
   on_longer (goes_on o p) h = refl
   on_longer (hands_over o) h = refl
   on_longer (ends o) h = refl
   on_longer is_left h = refl
 
-  off_anew : {before after : State} (m : Move before after) → is_free before ≡ true → one_if (is_for Off (sends m) && v) ≡ one_if (is_over (state_number after) && v)
+  off_anew : {before after : State} (m : Move before after) → is_free before ≡ true → one_if (is_asked Off (sends m) && v) ≡ one_if (is_over (state_number after) && v)
   off_anew (starts {after} o) h = rw (on_offer after o).going
   off_anew (goes_on {before} o p) h = absurd (not_both h (on_offer before o).held)
   off_anew (hands_over {before} o) h = absurd (not_both h (on_offer before o).held)
@@ -85,7 +87,7 @@ module _ (v : Bool) where
   off_anew is_left h = never h
 
   off_longer : {before after : State} (m : Move before after) → is_free before ≡ false
-      → one_if (is_for Off (sends m) && v) + one_if (is_over (state_number before) && v) ≡ one_if (is_over (state_number after) && v)
+      → one_if (is_asked Off (sends m) && v) + one_if (is_over (state_number before) && v) ≡ one_if (is_over (state_number after) && v)
   off_longer (starts o) h = never (sym h)
   off_longer (goes_on {before} {after} o p) h = rw ((on_offer before o).going, (on_offer after p).going)
   off_longer (hands_over {before} o) h = rw (on_offer before o).going (omega arith)
@@ -110,13 +112,10 @@ grows (longer stay busy so_far more closed) g w new old = omega (arith, more g, 
 
 module _ (f : List ℕ → Bool) where
   -- what a notice has for the member
-  abbrev noticed : Indication → ℕ → Notice → ℕ
-  noticed n m x = one_if (is_for n (to_member m x) && f x.call)
-
-  noticed_lit : (n : Indication) (m : ℕ) → is_member m ≡ true → (l : Lamps) (i : ℕ) (a : Answer) (asks : Asks)
-      → noticed n m (lit_by l i a asks).notice ≡ one_if (is_for n asks && f a.call)
-  noticed_lit n m who l i a NoOne = rw who
-  noticed_lit n m who l i a (Each k) = rw who
+  noticed_lit : (n : Indication) (m : ℕ) → is_member m ≡ true → (l : Lamps) (i : ℕ) (a : Answer) (asks : Option Indication)
+      → one_if (is_for n f m (lit_by l i a asks).notice) ≡ one_if (is_asked n asks && f a.call)
+  noticed_lit n m who l i a None = refl
+  noticed_lit n m who l i a (Some k) = rw who
 
   -- the numbers of a stay, where its call is counted
   abbrev of_stay : List Act → ℕ
@@ -136,10 +135,10 @@ module _ (f : List ℕ → Bool) where
     a = (step_of t e).answer
 
     -- a refused event sends nothing, and the stays are as they were
-    kept : (m : ℕ) → is_member m ≡ true → (n : Indication) (g : List Act → ℕ) → eqb a.number 0 ≡ false → lit_of s.lamps t e a ≡ unlit s.lamps
+    kept : (m : ℕ) (n : Indication) (g : List Act → ℕ) → eqb a.number 0 ≡ false → lit_of s.lamps t e a ≡ unlit s.lamps
         → sent_to n f m s (event e) + weight g st ≡ weight g (stays_by st s (event e))
-    kept m who n g q lit =
-        let silent : sent_to n f m s (event e) ≡ 0 = ap (λ (z : Lit). noticed n m z.notice) lit ∙ noticed_lit n m who s.lamps 0 a NoOne in
+    kept m n g q lit =
+        let silent : sent_to n f m s (event e) ≡ 0 = ap (λ (z : Lit). one_if (is_for n f m z.notice)) lit in
         rw q (omega (arith, silent))
 
     -- an event that is done: by how the stays grow
@@ -174,8 +173,8 @@ module _ (f : List ℕ → Bool) where
 
       -- .. and by what it sends
       module _ (m : ℕ) (who : is_member m ≡ true) (lit : lit_of s.lamps t e a ≡ lit_by s.lamps (index_at (step_of t e)) a (sends x.move)) where
-        said : (n : Indication) → sent_to n f m s (event e) ≡ one_if (is_for n (sends x.move) && f a.call)
-        said n = ap (λ (z : Lit). noticed n m z.notice) lit ∙ noticed_lit n m who s.lamps (index_at (step_of t e)) a (sends x.move)
+        said : (n : Indication) → sent_to n f m s (event e) ≡ one_if (is_asked n (sends x.move) && f a.call)
+        said n = ap (λ (z : Lit). one_if (is_for n f m z.notice)) lit ∙ noticed_lit n m who s.lamps (index_at (step_of t e)) a (sends x.move)
 
         on_grows : sent_to On f m s (event e) + weight of_stay st ≡ weight of_stay (stays_by st s (event e))
         on_grows =
@@ -189,21 +188,18 @@ module _ (f : List ℕ → Bool) where
 
   -- ---- one input
 
-  silent : (n : Indication) (m : ℕ) → is_member m ≡ true → noticed n m no_notice ≡ 0
-  silent n m who = rw who
-
   -- what is sent to the member, with a number of the stays that grows by it
-  once_sent : (m : ℕ) → is_member m ≡ true → (n : Indication) (g : List Act → ℕ)
+  once_sent : (m : ℕ) (n : Indication) (g : List Act → ℕ)
       → ((s : Endpoint) (st : Stays Act) (good : Good s st) (e : Event) (x : AtOnePlace s.table (step_of s.table e)) → eqb (step_of s.table e).answer.number 0 ≡ true
       → lit_of s.lamps s.table e (step_of s.table e).answer ≡ lit_by s.lamps (index_at (step_of s.table e)) (step_of s.table e).answer (sends x.move)
       → sent_to n f m s (event e) + weight g st ≡ weight g (stays_by st s (event e)))
       → (s : Endpoint) (st : Stays Act) → Good s st → (x : Input) → sent_to n f m s x + weight g st ≡ weight g (stays_by st s x)
-  once_sent m who n g grows-by s st good (event e) = by (came s.lamps s.table e (full good))
+  once_sent m n g grows-by s st good (event e) = by (came s.lamps s.table e (full good))
     where
       by : Came s.lamps s.table e (step_of s.table e) → sent_to n f m s (event e) + weight g st ≡ weight g (stays_by st s (event e))
-      by (refused q same lit) = kept s st good e m who n g q lit
+      by (refused q same lit) = kept s st good e m n g q lit
       by (done x q from lit) = grows-by s st good e x q lit
-  once_sent m who n g grows-by s st good (reply r) = omega (arith, silent n m who)
+  once_sent m n g grows-by s st good (reply r) = zero-add (weight g st)
 
   -- what is counted of the answers, with a number of the stays that grows by it
   once_counted : (p : Event → Answer → Bool) (total : Stays Act → ℕ)
@@ -227,13 +223,13 @@ from_start w total zero once xs = omega (arith, zero, adds_up w total once start
 pub each_on : EachOn
 each_on f m who xs =
     from_start (sent_to On f m) (weight (of_stay f)) refl
-    (once_sent f m who On (of_stay f) (λ s st good e x q lit. on_grows f s st good e x q m who lit)) xs
+    (once_sent f m On (of_stay f) (λ s st good e x q lit. on_grows f s st good e x q m who lit)) xs
     ∙ sym (all_count (λ stay. f (call_in stay)) (stays machine none (run machine empty_table (events_in xs))))
 
 pub each_off : EachOff
 each_off f m who xs =
     from_start (sent_to Off f m) (weight (of_over f)) refl
-    (once_sent f m who Off (of_over f) (λ s st good e x q lit. off_grows f s st good e x q m who lit)) xs
+    (once_sent f m Off (of_over f) (λ s st good e x q lit. off_grows f s st good e x q m who lit)) xs
     ∙ sym (all_count (λ stay. is_over_stay stay && f (call_in stay)) (stays machine none (run machine empty_table (events_in xs))))
 
 pub same_numbers : AreSameNumbers

@@ -1,13 +1,13 @@
 -- Whose request a lamp shows: On exactly as long as the call at the place is on offer, with the call that is held there, and of the stay that was last at
 -- the place. An event changes the lamp and the stay of its own place alone, by the five moves; a reply changes neither On or Off nor the call.
-use Rattle.std.proofs.Common.{◌≡◌, ℕ, zero, suc, ◌+◌, ◌-◌, ◌<◌, Bool, true, false, cond, not, eqb, ◌≢◌, List, [], ◌∷◌, length, get_or, set, sym, refl, ap, ◌∙◌, subst, arith, get_or-set_other, get_or-set_same, eq-eqb, ne_eqb}
+use Rattle.std.proofs.Common.{◌≡◌, ℕ, zero, suc, ◌+◌, ◌-◌, ◌<◌, Bool, true, false, cond, not, eqb, ◌≢◌, List, [], ◌∷◌, Option, None, Some, length, get_or, set, sym, refl, ap, ◌∙◌, subst, arith, get_or-set_other, get_or-set_same, eq-eqb, ne_eqb}
 use native.Mathlib.Decide.{ℕ_discrete}
 use lib.ListN.{get_or-replicate}
 use Rattle.laws.proofs.Bools.{never}
 use Rattle.table.specs.declared.State.{State}
 use Rattle.table.specs.declared.Record.{Record}
 use Rattle.table.specs.declared.Table.{Table}
-use Rattle.table.specs.Places.{state_number, is_free, place_at, free_record, blank, empty_table, record_at, place_count}
+use Rattle.table.specs.Places.{state_number, is_free, free_record, blank, empty_table, record_at, place_count}
 use Rattle.events.specs.declared.Event.{Event}
 use Rattle.events.specs.declared.Answer.{Answer}
 use Rattle.events.specs.Turn.{up}
@@ -23,12 +23,11 @@ use Rattle.lamps.specs.declared.members.Indication.TheVariants.{On, Off}
 use Rattle.lamps.specs.declared.members.Gp.TheVariants.{NotifyOffRequ}
 use Rattle.lamps.specs.declared.members.Lamp.{Lamp}
 use Rattle.lamps.specs.declared.members.Lamps.{Lamps}
-use Rattle.lamps.specs.declared.notice.Asks.{Asks}
-use Rattle.lamps.specs.declared.notice.Asks.TheVariants.{NoOne, Each}
+use Rattle.lamps.specs.declared.notice.Notice.{Notice}
 use Rattle.lamps.specs.declared.notice.Lit.{Lit}
 use Rattle.lamps.specs.declared.reply.Reply.{Reply}
 use Rattle.lamps.specs.declared.reply.Settlement.{Settlement}
-use Rattle.lamps.specs.Members.{gp_in, dark_lamp, blank_lamp, lamp_at}
+use Rattle.lamps.specs.Members.{timers_of, gp_in, dark_lamp, blank_lamp, lamp_at}
 use Rattle.lamps.specs.Notice.{is_over, new_lamp, lit_by}
 use Rattle.lamps.specs.Reply.{replied}
 use Rattle.lamps.specs.Served.{start}
@@ -41,21 +40,21 @@ use Rattle.lamps.proofs.Along.{act_of, fold_by, fold_step, Good, full, good_afte
 -- ---- the lamp of a place
 
 -- what a request leaves at its place, and elsewhere
-abbrev shown_by : Asks → Answer → Lamp → Bool × List ℕ
-shown_by NoOne a x = (is_off x.indication, x.call)
-shown_by (Each n) a x = (is_off n, a.call)
+abbrev shown_by : Option Indication → Answer → Lamp → Bool × List ℕ
+shown_by None a x = (is_off x.indication, x.call)
+shown_by (Some n) a x = (is_off n, a.call)
 
 abbrev shown : Lamp → Bool × List ℕ
 shown x = (is_off x.indication, x.call)
 
 module _ (l : Lamps) (a : Answer) (i : ℕ) where
-  lit_here : (asks : Asks) → i < length l.places → shown (lamp_at (lit_by l i a asks).lamps i) ≡ shown_by asks a (lamp_at l i)
-  lit_here NoOne h = refl
-  lit_here (Each n) h = ap shown (get_or-set_same l.places i (new_lamp n a.call (up l.last)) blank_lamp h)
+  lit_here : (asks : Option Indication) → i < length l.places → shown (lamp_at (lit_by l i a asks).lamps i) ≡ shown_by asks a (lamp_at l i)
+  lit_here None h = refl
+  lit_here (Some n) h = ap shown (get_or-set_same l.places i (new_lamp n a.call (up l.last)) blank_lamp h)
 
-  lit_other : (asks : Asks) (j : ℕ) → j ≢ i → lamp_at (lit_by l i a asks).lamps j ≡ lamp_at l j
-  lit_other NoOne j h = refl
-  lit_other (Each n) j h = get_or-set_other l.places i j (new_lamp n a.call (up l.last)) blank_lamp h
+  lit_other : (asks : Option Indication) (j : ℕ) → j ≢ i → lamp_at (lit_by l i a asks).lamps j ≡ lamp_at l j
+  lit_other None j h = refl
+  lit_other (Some n) j h = get_or-set_other l.places i j (new_lamp n a.call (up l.last)) blank_lamp h
 
 shown_set : (l : List Lamp) (i j : ℕ) (x : Lamp) → shown x ≡ shown (get_or l i blank_lamp) → shown (get_or (set l i x) j blank_lamp) ≡ shown (get_or l j blank_lamp)
 shown_set [] i j x q = refl
@@ -170,8 +169,8 @@ of_last_stay xs i inside = let f = all_fit xs i inside in record { indication = 
 -- only a request for Off is awaited in GP-NotifyOffRequ
 awaits_off : (n : Indication) (b : Bool) → gp_in n b ≡ NotifyOffRequ → is_off n ≡ true
 awaits_off Off b h = refl
-awaits_off On true h = absurd (let z : ◌≡◌ {A = ℕ} 0 1 = cc in omega arith)
-awaits_off On false h = absurd (let z : ◌≡◌ {A = ℕ} 0 1 = cc in omega arith)
+awaits_off On true h = absurd cc
+awaits_off On false h = absurd cc
 
 pub pending_off : PendingOff
 pending_off xs i m inside h =
@@ -184,25 +183,24 @@ lamps_agree xs i inside = let f = all_fit xs i inside in record { offered_on = f
 
 -- ---- what a request replaces
 
-lit_asks : (l : Lamps) (i : ℕ) (a : Answer) (asks : Asks) → (lit_by l i a asks).notice.asks ≡ asks
-lit_asks l i a NoOne = refl
-lit_asks l i a (Each n) = refl
-
-lit_place : (l : Lamps) (i : ℕ) (a : Answer) (asks : Asks) (n : Indication) → asks ≡ Each n → (lit_by l i a asks).notice.place ≡ a.place
-lit_place l i a NoOne n q = absurd (let z : ◌≡◌ {A = ℕ} 0 1 = cc in omega arith)
-lit_place l i a (Each k) n q = refl
+-- a request is of the indication that was asked for, at the place of the answer
+lit_asks : (l : Lamps) (i : ℕ) (a : Answer) (asks : Option Indication) (z : Notice) → (lit_by l i a asks).notice ≡ Some z → (asks ≡ Some z.asks) × (z.place ≡ a.place)
+lit_asks l i a None z q = absurd cc
+lit_asks l i a (Some n) z q =
+    let is : z ≡ record { asks = n; call = a.call; place = a.place; invoke = up l.last; stopped = timers_of (lamp_at l i); started = timers_of (new_lamp n a.call (up l.last)) } = cc in
+    rw is (refl, refl)
 
 -- the request of a move, and what the lamp showed before it
-other_before : {before after : State} (m : Move before after) (n : Indication) → sends m ≡ Each n → not (offered before) ≡ not (is_off n)
+other_before : {before after : State} (m : Move before after) (n : Indication) → sends m ≡ Some n → not (offered before) ≡ not (is_off n)
 other_before (starts o) n q = let on : On ≡ n = cc q in rw (sym on)
-other_before (goes_on o p) n q = absurd (let z : ◌≡◌ {A = ℕ} 0 1 = cc in omega arith)
+other_before (goes_on o p) n q = absurd cc
 other_before (hands_over o) n q = let off : Off ≡ n = cc q in rw (o, sym off)
 other_before (ends o) n q = let off : Off ≡ n = cc q in rw (o, sym off)
-other_before is_left n q = absurd (let z : ◌≡◌ {A = ℕ} 0 1 = cc in omega arith)
+other_before is_left n q = absurd cc
 
 pub replaces : Replaces
-replaces xs (reply r) n i inside q at = absurd (let z : ◌≡◌ {A = ℕ} 0 1 = cc q in omega arith)
-replaces xs (event e) n i inside q at = by (came l t e (full (good_final start none good_start xs)))
+replaces xs (reply r) z i inside q at = absurd (cc q)
+replaces xs (event e) z i inside q at = by (came l t e (full (good_final start none good_start xs)))
   where
     l : Lamps
     l = (final start xs).lamps
@@ -213,12 +211,10 @@ replaces xs (event e) n i inside q at = by (came l t e (full (good_final start n
     a : Answer
     a = (step_of t e).answer
 
-    by : Came l t e (step_of t e) → is_off (lamp_at l i).indication ≡ not (is_off n)
-    by (refused h same lit) = absurd (let none_asked : NoOne ≡ Each n = sym (ap (λ (z : Lit). z.notice.asks) lit) ∙ q in let z : ◌≡◌ {A = ℕ} 0 1 = cc none_asked in omega arith)
+    by : Came l t e (step_of t e) → is_off (lamp_at l i).indication ≡ not (is_off z.asks)
+    by (refused h same lit) = absurd (cc (sym (ap (λ (y : Lit). y.notice) lit) ∙ q))
     by (done x h from lit) =
         let here : ℕ = index_at (step_of t e) in
-        let asks : sends x.move ≡ Each n = sym (lit_asks l here a (sends x.move)) ∙ sym (ap (λ (z : Lit). z.notice.asks) lit) ∙ q in
-        let place : place_at i ≡ place_at here =
-        sym at ∙ ap (λ (z : Lit). z.notice.place) lit ∙ lit_place l here a (sends x.move) n asks ∙ x.place in
-        let same : i ≡ here = same_index i here inside x.inside place in
-        (all_fit xs i inside).offered_on ∙ ap (λ (k : ℕ). not (offered (record_at t k).state)) same ∙ other_before x.move n asks
+        let asked = lit_asks l here a (sends x.move) z (sym (ap (λ (y : Lit). y.notice) lit) ∙ q) in
+        let same : i ≡ here = same_index i here inside x.inside (sym at ∙ asked.1 ∙ x.place) in
+        (all_fit xs i inside).offered_on ∙ ap (λ (k : ℕ). not (offered (record_at t k).state)) same ∙ other_before x.move z.asks asked.0

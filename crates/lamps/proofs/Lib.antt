@@ -1,4 +1,5 @@
 pub mod Numbers
+pub mod Maps
 pub mod Settling
 pub mod Accepted
 pub mod Clause

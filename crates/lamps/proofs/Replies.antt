@@ -1,7 +1,8 @@
 -- Which replies are accepted: 31, 32 and 0 say exactly what the request says of them, and a refusal changes nothing. The test that the code runs is the
 -- four facts (`named_of_test`, `test_of_named`).
-use Rattle.std.proofs.Common.{◌≡◌, ℕ, ◌-◌, Bool, true, false, ◌&&◌, eqb, get_or, refl, inl, inr, arith, eq-eqb, eqb-true}
+use Rattle.std.proofs.Common.{◌≡◌, ◌-◌, Bool, true, false, ◌&&◌, eqb, get_or, sym, refl, eq-eqb, eqb-true}
 use Rattle.laws.proofs.Bools.{never, and_left, and_right, and_both, not_both}
+use Rattle.table.specs.Places.{place_at}
 use Rattle.table.specs.Search.{same_call}
 use Rattle.table.proofs.Calls.{same_is, same_self}
 use Rattle.lamps.specs.declared.members.Indication.{Indication}
@@ -9,7 +10,7 @@ use Rattle.lamps.specs.declared.members.Indication.TheVariants.{On, Off}
 use Rattle.lamps.specs.declared.members.Lamp.{Lamp}
 use Rattle.lamps.specs.declared.reply.Reply.{Reply}
 use Rattle.lamps.specs.declared.reply.Settlement.{Settlement}
-use Rattle.lamps.specs.Members.{same_indication, awaits, gp_in, lamp_at}
+use Rattle.lamps.specs.Members.{same_indication, timer_of, awaits, gp_in, lamp_at}
 use Rattle.lamps.specs.Reply.{same_request, is_pending, settled_of}
 use Rattle.lamps.specs.Promises.{Named, RepliesRight, AreRepliesRight}
 use Rattle.lamps.proofs.Settling.{no_member, none_pending, Settling, refuses, settles, settling}
@@ -29,8 +30,8 @@ indication_self Off = refl
 -- a member that awaits the reply has still to reply
 is_waiting : (n : Indication) (b : Bool) → gp_in n b ≡ awaits n → b ≡ true
 is_waiting n true h = refl
-is_waiting On false h = absurd (let z : ◌≡◌ {A = ℕ} 0 1 = cc in omega arith)
-is_waiting Off false h = absurd (let z : ◌≡◌ {A = ℕ} 0 1 = cc in omega arith)
+is_waiting On false h = absurd cc
+is_waiting Off false h = absurd cc
 
 module _ (r : Reply) (x : Lamp) where
   abbrev waiting : Bool
@@ -75,29 +76,30 @@ replies_right l r wide = by (settling l wide r) refl
   where
     by : {z : Settlement} → Settling l r z → settled_of l r ≡ z → RepliesRight l r
     by (settles {i} x) is = record {
-      done = λ q. (
-        x.member,
-        record {
-          at = i;
-          inside = x.inside;
-          place = rw is;
-          named = named_of_test r (lamp_at l i) x.pending;
-          lowest = λ j w. not_named r (lamp_at l j) (x.first j w);
-        },
-      );
-      no_member = λ q. absurd (let z : ◌≡◌ {A = ℕ} 0 31 = rw is at q in omega arith);
-      none_pending = λ q. absurd (let z : ◌≡◌ {A = ℕ} 0 32 = rw is at q in omega arith);
-      else = λ n. absurd (n (rw is));
+      done = λ y q.
+          let same : record { place = place_at i; stopped = timer_of (lamp_at l i).indication } ≡ y = cc (rw is at q) in (
+            x.member,
+            record {
+              at = i;
+              inside = x.inside;
+              place = rw (sym same);
+              named = named_of_test r (lamp_at l i) x.pending;
+              lowest = λ j w. not_named r (lamp_at l j) (x.first j w);
+            },
+          );
+      no_member = λ q. absurd (cc (rw is at q));
+      none_pending = λ q. absurd (cc (rw is at q));
+      else = λ w q. absurd (cc (rw is at q));
     }
     by (refuses (none_pending who none)) is = record {
-      done = λ q. absurd (let z : ◌≡◌ {A = ℕ} 32 0 = rw is at q in omega arith);
-      no_member = λ q. absurd (let z : ◌≡◌ {A = ℕ} 32 31 = rw is at q in omega arith);
+      done = λ y q. absurd (cc (rw is at q));
+      no_member = λ q. absurd (cc (rw is at q));
       none_pending = λ q. (who, λ j w. not_named r (lamp_at l j) (none j w));
-      else = λ n. (inr (rw is), rw is);
+      else = λ w q. rw is;
     }
     by (refuses (no_member who)) is = record {
-      done = λ q. absurd (let z : ◌≡◌ {A = ℕ} 31 0 = rw is at q in omega arith);
+      done = λ y q. absurd (cc (rw is at q));
       no_member = λ q. who;
-      none_pending = λ q. absurd (let z : ◌≡◌ {A = ℕ} 31 32 = rw is at q in omega arith);
-      else = λ n. (inl (rw is), rw is);
+      none_pending = λ q. absurd (cc (rw is at q));
+      else = λ w q. rw is;
     }

@@ -1,10 +1,12 @@
 -- What is kept of each place for the eight members (document 02, Q-5), and the state of a place and a member (H.450.5, 7.6 and 10.3.6). A place is
 -- counted from 1, and its index from 0; a member is counted from 1.
-use Rattle.std.specs.Prelude.{ℕ, ◌-◌, Bool, true, false, cond, ◌&&◌, List, [], map, replicate, nat_le, slice_index_or}
+use Rattle.std.specs.Prelude.{ℕ, ◌-◌, Bool, true, false, cond, ◌&&◌, List, [], map, replicate, nat_le, slice_index_or, Option, None, Some}
 use Rattle.table.specs.declared.Place.{Place}
 use Rattle.table.specs.Places.{no_call, no_invoke, place_count, index_of}
 use Rattle.lamps.specs.declared.members.Indication.{Indication}
 use Rattle.lamps.specs.declared.members.Indication.TheVariants.{On, Off}
+use Rattle.lamps.specs.declared.members.Timer.{Timer}
+use Rattle.lamps.specs.declared.members.Timer.TheVariants.{T4, T5}
 use Rattle.lamps.specs.declared.members.Gp.{Gp}
 use Rattle.lamps.specs.declared.members.Gp.TheVariants.{Idle, NotifyOnRequ, NotifyOffRequ}
 use Rattle.lamps.specs.declared.members.Lamp.{Lamp}
@@ -23,11 +25,21 @@ abbrev pub awaits : Indication → Gp
 awaits On = NotifyOnRequ
 awaits Off = NotifyOffRequ
 
--- 10.4: "T4 .. during state GP-NotifyOnRequ", "T5 .. during state GP-NotifyOffRequ"; 0 is no timer
-abbrev pub timer_in : Gp → ℕ
-timer_in Idle = 0
-timer_in NotifyOnRequ = 4
-timer_in NotifyOffRequ = 5
+-- the digit of each
+abbrev pub timer_number : Timer → ℕ
+timer_number T4 = 4
+timer_number T5 = 5
+
+-- the timer that runs while a request waits for its reply: "shall enter the GP-NotifyOnRequ state and start timer T4", and T5 with Off
+abbrev pub timer_of : Indication → Timer
+timer_of On = T4
+timer_of Off = T5
+
+-- 10.4: "T4 .. during state GP-NotifyOnRequ", "T5 .. during state GP-NotifyOffRequ"
+abbrev pub timer_in : Gp → Option Timer
+timer_in Idle = None
+timer_in NotifyOnRequ = Some T4
+timer_in NotifyOffRequ = Some T5
 
 -- of a member that has still to reply to such a request, or has not
 abbrev pub gp_in : Indication → Bool → Gp
@@ -37,7 +49,7 @@ abbrev pub gp_of : Lamp → ℕ → Gp
 gp_of x m = gp_in x.indication (slice_index_or x.pending (m - 1) false)
 
 -- the timers that run at a place, of members 1 to 8
-abbrev pub timers_of : Lamp → List ℕ
+abbrev pub timers_of : Lamp → List (Option Timer)
 timers_of x = map (λ pending. timer_in (gp_in x.indication pending)) x.pending
 
 -- ---- the empty lamps

@@ -1,17 +1,14 @@
 -- What an accepted event sends to the members (document 02, Q-5; H.450.5, 7.6).
-use Rattle.std.specs.Prelude.{ℕ, Bool, true, cond, ◌||◌, List, replicate, ◌==◌, slice_set}
+use Rattle.std.specs.Prelude.{ℕ, Bool, true, cond, ◌||◌, List, replicate, Option, None, Some, ◌==◌, slice_set}
 use Rattle.table.specs.declared.Invoke.{Invoke}
 use Rattle.table.specs.declared.State.{State}
-use Rattle.table.specs.Places.{state_number, no_call, no_place, no_invoke}
+use Rattle.table.specs.Places.{state_number}
 use Rattle.events.specs.declared.Answer.{Answer}
 use Rattle.events.specs.Turn.{up}
 use Rattle.lamps.specs.declared.members.Indication.{Indication}
 use Rattle.lamps.specs.declared.members.Indication.TheVariants.{On, Off}
 use Rattle.lamps.specs.declared.members.Lamp.{Lamp}
 use Rattle.lamps.specs.declared.members.Lamps.{Lamps}
-use Rattle.lamps.specs.declared.notice.Asks.{Asks}
-use Rattle.lamps.specs.declared.notice.Asks.TheVariants.{NoOne, Each}
-use Rattle.lamps.specs.declared.notice.Notice.{Notice}
 use Rattle.lamps.specs.declared.notice.Lit.{Lit}
 use Rattle.lamps.specs.Members.{timers_of, lamp_at}
 
@@ -31,16 +28,13 @@ had_off s = state_number s == 5
 
 -- "An accepted park or alert sends groupIndicationOn to each member. Off is sent once in a stay: at an accepted pickup result or, house rule, at any
 -- other end." A pickup result leads to state 5 or frees the place, and so does any other end
-abbrev pub asks_for : ℕ → State → ℕ → Asks
-asks_for kind before after = cond (starts_stay kind) (Each On) (cond (had_off before) NoOne (cond (is_over after) (Each Off) NoOne))
+abbrev pub asks_for : ℕ → State → ℕ → Option Indication
+asks_for kind before after = cond (starts_stay kind) (Some On) (cond (had_off before) None (cond (is_over after) (Some Off) None))
 
 -- ---- the request
 
-abbrev pub no_notice : Notice
-no_notice = record { asks = NoOne; call = no_call; place = no_place; invoke = no_invoke; stopped = replicate 8 0; started = replicate 8 0 }
-
 abbrev pub unlit : Lamps → Lit
-unlit l = record { lamps = l; notice = no_notice }
+unlit l = record { lamps = l; notice = None }
 
 -- pending to each member
 abbrev pub new_lamp : Indication → List ℕ → Invoke → Lamp
@@ -51,16 +45,16 @@ new_lamp n call invoke = record { indication = n; call = call; invoke = invoke; 
 abbrev pub asked : Lamps → ℕ → Answer → Indication → Lit
 asked l i a n = record {
   lamps = record { places = slice_set l.places i (new_lamp n a.call (up l.last)); last = up l.last };
-  notice = record {
-    asks = Each n;
+  notice = Some (record {
+    asks = n;
     call = a.call;
     place = a.place;
     invoke = up l.last;
     stopped = timers_of (lamp_at l i);
     started = timers_of (new_lamp n a.call (up l.last));
-  };
+  });
 }
 
-abbrev pub lit_by : Lamps → ℕ → Answer → Asks → Lit
-lit_by l i a NoOne = unlit l
-lit_by l i a (Each n) = asked l i a n
+abbrev pub lit_by : Lamps → ℕ → Answer → Option Indication → Lit
+lit_by l i a None = unlit l
+lit_by l i a (Some n) = asked l i a n

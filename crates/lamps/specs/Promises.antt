@@ -1,7 +1,7 @@
 -- What is promised of every run from the empty table: one page of statements, each proved under the name that stands beside it, in `proofs/`. The
 -- stays are those of demand 3 (crate `stays`), counted there. Every count is taken over the calls that pass a test, so that it is said of all calls
 -- together and of each call by itself.
-use Rattle.std.specs.Prelude.{◌≡◌, ℕ, ◌+◌, ◌%◌, ◌^◌, ◌<◌, Bool, true, false, cond, not, ◌&&◌, ◌||◌, ◌⊎◌, List, [], ◌∷◌, length, ◌==◌, ◌≢◌, nat_eq}
+use Rattle.std.specs.Prelude.{◌≡◌, ℕ, ◌+◌, ◌%◌, ◌^◌, ◌<◌, Bool, true, false, cond, not, ◌&&◌, ◌||◌, List, [], ◌∷◌, length, Some, Ok, Err, ◌==◌, nat_eq}
 use Rattle.table.specs.declared.Table.{Table}
 use Rattle.table.specs.Places.{is_free, place_at, no_call, empty_table, record_at, place_count}
 use Rattle.events.specs.declared.Event.{Event}
@@ -18,8 +18,11 @@ use Rattle.lamps.specs.declared.members.Indication.TheVariants.{On, Off}
 use Rattle.lamps.specs.declared.members.Gp.TheVariants.{NotifyOffRequ}
 use Rattle.lamps.specs.declared.members.Lamp.{Lamp}
 use Rattle.lamps.specs.declared.members.Lamps.{Lamps}
-use Rattle.lamps.specs.declared.notice.Asks.TheVariants.{Each}
+use Rattle.lamps.specs.declared.notice.Notice.{Notice}
 use Rattle.lamps.specs.declared.reply.Reply.{Reply}
+use Rattle.lamps.specs.declared.reply.Settled.{Settled}
+use Rattle.lamps.specs.declared.reply.ReplyRefusal.{ReplyRefusal}
+use Rattle.lamps.specs.declared.reply.ReplyRefusal.TheVariants.{NoSuchMember, NotPending}
 use Rattle.lamps.specs.Members.{same_indication, awaits, gp_of, is_member, lamp_at}
 use Rattle.lamps.specs.Notice.{starts_stay, is_over}
 use Rattle.lamps.specs.Reply.{settled_of}
@@ -87,8 +90,8 @@ AreSameNumbers = (f : List ℕ → Bool) (xs : List Input) → SameNumbers f xs
 -- `numbered`: "Requests to one member are numbered on over all places from 1, with 0 after 65,535": after so many requests to a member, the next one
 -- has the number one above
 abbrev pub Numbered : Type 0
-Numbered = (m : ℕ) → is_member m ≡ true → (xs : List Input) (x : Input) (n : Indication)
-    → (notice_of (final start xs) x).asks ≡ Each n → (notice_of (final start xs) x).invoke.0 ≡ (sum (request_to m) start xs + 1) % 2 ^ 16
+Numbered = (m : ℕ) → is_member m ≡ true → (xs : List Input) (x : Input) (z : Notice)
+    → notice_of (final start xs) x ≡ Some z → z.invoke.0 ≡ (sum (request_to m) start xs + 1) % 2 ^ 16
 
 -- ---- whose request it is
 
@@ -139,8 +142,8 @@ LampsAgree = (xs : List Input) (i : ℕ) → i < place_count → Agrees (final s
 
 -- `replaces`: "Off replaces a pending On ..; On for a new stay replaces a pending Off": what stood there before was the other
 abbrev pub Replaces : Type 0
-Replaces = (xs : List Input) (x : Input) (n : Indication) (i : ℕ) → i < place_count → (notice_of (final start xs) x).asks ≡ Each n
-    → (notice_of (final start xs) x).place ≡ place_at i → is_off (lamp_at (final start xs).lamps i).indication ≡ not (is_off n)
+Replaces = (xs : List Input) (x : Input) (z : Notice) (i : ℕ) → i < place_count → notice_of (final start xs) x ≡ Some z → z.place ≡ place_at i
+    → is_off (lamp_at (final start xs).lamps i).indication ≡ not (is_off z.asks)
 
 -- ---- which reply is accepted
 
@@ -152,19 +155,20 @@ pub record Named (r : Reply) (x : Lamp) : Type 0 where
   pub pending : gp_of x r.member ≡ awaits r.indication
 
 -- it is at this place, and at no lower one
-pub record Settles (l : Lamps) (r : Reply) : Type 0 where
+pub record Settles (l : Lamps) (r : Reply) (x : Settled) : Type 0 where
   pub at : ℕ
   pub inside : at < place_count
-  pub place : (settled_of l r).place ≡ place_at at
+  pub place : x.place ≡ place_at at
   pub named : Named r (lamp_at l at)
   pub lowest : (j : ℕ) → j < at → Named r (lamp_at l j) → ⊥
 
 pub record RepliesRight (l : Lamps) (r : Reply) : Type 0 where
-  pub done : (settled_of l r).number ≡ 0 → (is_member r.member ≡ true) × Settles l r
-  pub no_member : (settled_of l r).number ≡ 31 → is_member r.member ≡ false
-  pub none_pending : (settled_of l r).number ≡ 32 → (is_member r.member ≡ true) × ((j : ℕ) → j < place_count → Named r (lamp_at l j) → ⊥)
-  -- there is no other number, and a refusal changes nothing
-  pub else : ((settled_of l r).number ≢ 0) → (((settled_of l r).number ≡ 31) ⊎ ((settled_of l r).number ≡ 32)) × ((settled_of l r).lamps ≡ l)
+  pub done : (x : Settled) → (settled_of l r).answer ≡ Ok x → (is_member r.member ≡ true) × Settles l r x
+  -- 31 and 32, of which there is no other (`refusal_number`)
+  pub no_member : (settled_of l r).answer ≡ Err NoSuchMember → is_member r.member ≡ false
+  pub none_pending : (settled_of l r).answer ≡ Err NotPending → (is_member r.member ≡ true) × ((j : ℕ) → j < place_count → Named r (lamp_at l j) → ⊥)
+  -- a refusal changes nothing
+  pub else : (w : ReplyRefusal) → (settled_of l r).answer ≡ Err w → (settled_of l r).lamps ≡ l
 
 -- `replies_right`: of any lamps
 abbrev pub AreRepliesRight : Type 0

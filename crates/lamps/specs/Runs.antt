@@ -1,16 +1,13 @@
 -- Whole runs of the served endpoint: events and replies in any order, refused ones among them, and what goes out.
-use Rattle.std.specs.Prelude.{ℕ, ◌+◌, Bool, true, false, cond, ◌&&◌, List, [], ◌∷◌}
+use Rattle.std.specs.Prelude.{ℕ, ◌+◌, Bool, false, ◌&&◌, List, [], ◌∷◌, Option, None, Some}
 use Rattle.events.specs.declared.Event.{Event}
 use Rattle.events.specs.declared.Answer.{Answer}
 use Rattle.stays.specs.Stays.{one_if}
 use Rattle.lamps.specs.declared.Endpoint.{Endpoint}
 use Rattle.lamps.specs.declared.members.Indication.{Indication}
-use Rattle.lamps.specs.declared.notice.Asks.{Asks}
-use Rattle.lamps.specs.declared.notice.Asks.TheVariants.{NoOne, Each}
 use Rattle.lamps.specs.declared.notice.Notice.{Notice}
 use Rattle.lamps.specs.declared.reply.Reply.{Reply}
 use Rattle.lamps.specs.Members.{same_indication, is_member}
-use Rattle.lamps.specs.Notice.{no_notice}
 use Rattle.lamps.specs.Reply.{settled_of}
 use Rattle.lamps.specs.Served.{told_of}
 
@@ -47,26 +44,24 @@ answers s (reply r ∷ xs) = answers (endpoint_after s (reply r)) xs
 -- ---- what goes out
 
 -- a reply sends nothing
-abbrev pub notice_of : Endpoint → Input → Notice
+abbrev pub notice_of : Endpoint → Input → Option Notice
 notice_of s (event e) = (told_of s e).notice
-notice_of s (reply r) = no_notice
+notice_of s (reply r) = None
 
--- what a member has of it: it goes to each of the members 1 to 8
-abbrev pub to_member : ℕ → Notice → Asks
-to_member m x = cond (is_member m) x.asks NoOne
+-- whether a member has a request by it: it goes to each of the members 1 to 8
+abbrev pub is_request : ℕ → Option Notice → Bool
+is_request m None = false
+is_request m (Some x) = is_member m
 
-abbrev pub is_request : Asks → Bool
-is_request NoOne = false
-is_request (Each n) = true
-
-abbrev pub is_for : Indication → Asks → Bool
-is_for n NoOne = false
-is_for n (Each k) = same_indication n k
+-- .. whether that is an On, or an Off, for a call that passes the test
+abbrev pub is_for : Indication → (List ℕ → Bool) → ℕ → Option Notice → Bool
+is_for n f m None = false
+is_for n f m (Some x) = is_member m && (same_indication n x.asks && f x.call)
 
 -- a request to the member, of whatever sort
 abbrev pub request_to : ℕ → Endpoint → Input → ℕ
-request_to m s x = one_if (is_request (to_member m (notice_of s x)))
+request_to m s x = one_if (is_request m (notice_of s x))
 
 -- an On, or an Off, to the member for a call that passes the test: any call, or one call alone
 abbrev pub sent_to : Indication → (List ℕ → Bool) → ℕ → Endpoint → Input → ℕ
-sent_to n f m s x = one_if (is_for n (to_member m (notice_of s x)) && f (notice_of s x).call)
+sent_to n f m s x = one_if (is_for n f m (notice_of s x))

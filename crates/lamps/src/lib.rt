@@ -22,12 +22,12 @@ pub struct Endpoint {
     pub lamps: Lamps,
 }
 
-// What an event came to: the endpoint after it, the table's answer, and what is sent to the members.
+// What an event came to: the endpoint after it, the table's answer, and what is sent to the members, where they are asked.
 #[derive(Clone, Copy)]
 pub struct Told {
     pub endpoint: Endpoint,
     pub answer: Answer,
-    pub notice: Notice,
+    pub notice: Option<Notice>,
 }
 
 impl Endpoint {
@@ -46,28 +46,19 @@ impl Endpoint {
 pub fn tell(s: Endpoint, e: Event) -> Told
     ensures { result ≡ told_of s e }
 {
-    let t = s.table;
-    let l = s.lamps;
-    let done = lent::single_step(t, e);
-    let table = done.table;
+    let done = lent::single_step(s.table, e);
     let answer = done.answer;
-    if answer.number == 0 {
-        let i = (answer.place.0 - 1) as usize;
-        let was = t.places[i];
-        let before = was.state;
-        let lit = notice::notify(l, i, e.kind, before, answer);
-        let lamps = lit.lamps;
-        let notice = lit.notice;
-        Told {
-            endpoint: Endpoint { table, lamps },
-            answer,
-            notice,
-        }
+    let lit = if answer.number == 0 {
+        notice::notify(s.lamps, &s.table, e, answer)
     } else {
-        Told {
-            endpoint: Endpoint { table, lamps: l },
-            answer,
-            notice: Notice::none(),
-        }
+        notice::leave(s.lamps)
+    };
+    Told {
+        endpoint: Endpoint {
+            table: done.table,
+            lamps: lit.lamps,
+        },
+        answer,
+        notice: lit.notice,
     }
 }

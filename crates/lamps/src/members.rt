@@ -1,20 +1,27 @@
 // What is kept of each place for the eight members, and the state of a place and a member. A request goes to all eight at once, so that On or Off,
 // the call and the number are the place's; the member's is only whether it has still to reply.
 
-ghost use Rattle.std.specs.Prelude.{◌≡◌, ◌≤◌};
-ghost use Rattle.lamps.specs.Members.{same_indication, awaits, timer_in, is_one_to, gp_in, gp_of, timers_of, dark_lamp, dark_lamps, gp_at};
+ghost use Rattle.std.specs.Prelude.{◌≡◌};
+ghost use Rattle.lamps.specs.Members.{timer_number, timer_of, awaits, timer_in, gp_in, timers_of, dark_lamp, dark_lamps, is_member, gp_at};
 
 use table::{Call, Invoke, Place, Table};
 
 // groupIndicationOn or groupIndicationOff.
-#[derive(Clone, Copy)]
+#[derive(Clone, Copy, PartialEq, Eq, Debug)]
 pub enum Indication {
     On,
     Off,
 }
 
+// The timer of a member that has still to reply: T4 to an On, T5 to an Off.
+#[derive(Clone, Copy, PartialEq, Eq, Debug)]
+pub enum Timer {
+    T4 = 4,
+    T5 = 5,
+}
+
 // The states of clause 10.3.6, of a place and a member.
-#[derive(Clone, Copy)]
+#[derive(Clone, Copy, PartialEq, Eq, Debug)]
 pub enum Gp {
     Idle,
     NotifyOnRequ,
@@ -38,18 +45,13 @@ pub struct Lamps {
 }
 
 impl Indication {
-    pub(crate) fn same(self, other: Indication) -> bool
-        ensures { result ≡ same_indication self other }
+    // The timer that runs while such a request waits for its reply.
+    pub(crate) fn timer(self) -> Timer
+        ensures { result ≡ timer_of self }
     {
         match self {
-            Indication::On => match other {
-                Indication::On => true,
-                Indication::Off => false,
-            },
-            Indication::Off => match other {
-                Indication::On => false,
-                Indication::Off => true,
-            },
+            Indication::On => Timer::T4,
+            Indication::Off => Timer::T5,
         }
     }
 
@@ -71,15 +73,24 @@ impl Indication {
     }
 }
 
+// The digit of its name.
+impl From<Timer> for u8 {
+    ghost from_gives = { λ t n. n ≡ timer_number t };
+
+    fn from(t: Timer) -> u8 {
+        t as u8
+    }
+}
+
 impl Gp {
-    // The timer that runs in this state: 4 for T4, 5 for T5, 0 for none.
-    pub fn timer(self) -> u8
+    // The timer that runs in this state.
+    pub fn timer(self) -> Option<Timer>
         ensures { result ≡ timer_in self }
     {
         match self {
-            Gp::Idle => 0,
-            Gp::NotifyOnRequ => 4,
-            Gp::NotifyOffRequ => 5,
+            Gp::Idle => None,
+            Gp::NotifyOnRequ => Some(Timer::T4),
+            Gp::NotifyOffRequ => Some(Timer::T5),
         }
     }
 }
@@ -98,28 +109,11 @@ impl Lamp {
     }
 
     // The timers that run at this place, of members 1 to 8.
-    pub(crate) fn timers(self) -> [u8; Lamps::MEMBERS]
+    pub(crate) fn timers(self) -> [Option<Timer>; Lamps::MEMBERS]
         ensures { result ≡ timers_of self }
     {
-        let n = self.indication;
-        let pending = self.pending;
-        let mut timers = [0u8; Lamps::MEMBERS];
-        let mut k: usize = 0;
-        while k < Lamps::MEMBERS {
-            timers[k] = n.state(pending[k]).timer();
-            k += 1;
-        }
-        timers
-    }
-
-    // The state of a member at this place.
-    pub(crate) fn state_of(self, member: u8) -> Gp
-        requires { (1 ≤ member) × (member ≤ 8) }
-        ensures { result ≡ gp_of self member }
-    {
-        let n = self.indication;
-        let pending = self.pending;
-        n.state(pending[(member - 1) as usize])
+        self.pending
+            .map(|pending| self.indication.state(pending).timer())
     }
 }
 
@@ -137,25 +131,19 @@ impl Lamps {
     }
 }
 
-// Is the number one of 1 to `most`?
-pub(crate) fn is_one_to(most: usize, n: usize) -> bool
-    ensures { result ≡ is_one_to most n }
+pub(crate) fn is_member(member: u8) -> bool
+    ensures { result ≡ is_member member }
 {
-    if n < 1 { false } else { n <= most }
+    (1..=Lamps::MEMBERS).contains(&(member as usize))
 }
 
 // The state of a place and a member. Where there is no such place or member no request is pending: GP-Idle.
 pub fn gp_at(l: Lamps, p: Place, member: u8) -> Gp
     ensures { result ≡ gp_at l p member }
 {
-    if is_one_to(Lamps::MEMBERS, member as usize) {
-        if is_one_to(Table::PLACES, p.0 as usize) {
-            let i = (p.0 - 1) as usize;
-            let x = l.places[i];
-            x.state_of(member)
-        } else {
-            Gp::Idle
-        }
+    if is_member(member) && (1..=Table::PLACES).contains(&(p.0 as usize)) {
+        let x = l.places[(p.0 - 1) as usize];
+        x.indication.state(x.pending[(member - 1) as usize])
     } else {
         Gp::Idle
     }

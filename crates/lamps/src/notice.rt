@@ -1,105 +1,72 @@
 // What an accepted event sends to the members: On at a park or an alert, Off once in the stay, and the timers that stop and start by it.
 
-ghost use Rattle.std.specs.Prelude.{◌≡◌, ◌<◌};
-ghost use Rattle.table.specs.Places.{place_count};
-ghost use Rattle.lamps.specs.Notice.{starts_stay, is_over, had_off, asks_for, no_notice, unlit, new_lamp, asked, lit_by};
+ghost use Rattle.std.specs.Prelude.{◌≡◌, ◌<◌, ◌≤◌};
+ghost use Rattle.table.specs.Places.{place_count, index_of};
+ghost use Rattle.lamps.specs.Notice.{starts_stay, is_over, had_off, asks_for, unlit, new_lamp, asked};
+ghost use Rattle.lamps.specs.Served.{lit_at};
 
-use crate::members::{Indication, Lamp, Lamps};
-use events::Answer;
+use crate::members::{Indication, Lamp, Lamps, Timer};
+use events::{Answer, Event};
 use table::{Call, Invoke, Place, State, Table};
 
-// The paper's numbers of two states.
-const FREE: u8 = 0;
-
-const HANDED_OVER: u8 = 5;
-
-// What each of the eight members is asked.
-#[derive(Clone, Copy)]
-pub enum Asks {
-    NoOne,
-    Each(Indication),
-}
-
-// What goes out to the members: one request, the same to each, and the timers that stop and start, of members 1 to 8 (0 none, 4 T4, 5 T5).
-// Zeros everywhere where no one is asked.
+// What goes out to the members where they are asked: one request, the same to each, and the timers that stop and start, of members 1 to 8.
 #[derive(Clone, Copy)]
 pub struct Notice {
-    pub asks: Asks,
+    pub asks: Indication,
     pub call: Call,
     pub place: Place,
     pub invoke: Invoke,
-    pub stopped: [u8; Lamps::MEMBERS],
-    pub started: [u8; Lamps::MEMBERS],
+    pub stopped: [Option<Timer>; Lamps::MEMBERS],
+    pub started: [Option<Timer>; Lamps::MEMBERS],
 }
 
 #[derive(Clone, Copy)]
 pub struct Lit {
     pub lamps: Lamps,
-    pub notice: Notice,
+    pub notice: Option<Notice>,
 }
 
-impl Notice {
-    pub(crate) fn none() -> Notice
-        ensures { result ≡ no_notice }
-    {
-        Notice {
-            asks: Asks::NoOne,
-            call: [0; Table::CALL_OCTETS],
-            place: Place(0),
-            invoke: Invoke(0),
-            stopped: [0; Lamps::MEMBERS],
-            started: [0; Lamps::MEMBERS],
-        }
-    }
-}
-
-// A park or an alert.
+// A park or an alert, by the paper's numbers of the kinds, which an event has (`Event`).
 fn starts_stay(kind: u8) -> bool
     ensures { result ≡ starts_stay kind }
 {
-    if kind == 1 { true } else { kind == 2 }
+    kind == 1 || kind == 2
 }
 
 // After the event the place is free, or the call is handed over.
 fn is_over(state: u8) -> bool
     ensures { result ≡ is_over state }
 {
-    if state == FREE {
-        true
-    } else {
-        state == HANDED_OVER
-    }
+    state == u8::from(State::Free) || state == u8::from(State::HandedOver)
 }
 
 // The call has had its Off in this stay: it is handed over.
 fn had_off(s: State) -> bool
     ensures { result ≡ had_off s }
 {
-    s.number() == HANDED_OVER
+    s == State::HandedOver
 }
 
-// What an accepted event of this kind asks of the members, by the state of its place before and after it.
-fn asks_for(kind: u8, before: State, after: u8) -> Asks
+// What an accepted event of this kind asks of each member, by the state of its place before and after it.
+fn asks_for(kind: u8, before: State, after: u8) -> Option<Indication>
     ensures { result ≡ asks_for kind before after }
 {
     if starts_stay(kind) {
-        return Asks::Each(Indication::On);
+        Some(Indication::On)
+    } else if !had_off(before) && is_over(after) {
+        Some(Indication::Off)
+    } else {
+        None
     }
-    if had_off(before) {
-        return Asks::NoOne;
-    }
-    if is_over(after) {
-        return Asks::Each(Indication::Off);
-    }
-    Asks::NoOne
 }
 
-fn leave(l: Lamps) -> Lit
+// Nothing is sent.
+pub(crate) fn leave(l: Lamps) -> Lit
     ensures { result ≡ unlit l }
 {
     Lit {
         lamps: l,
-        notice: Notice::none(),
+        notice: None,
     }
 }
 
@@ -123,34 +90,34 @@ fn ask_each(l: Lamps, i: usize, a: Answer, n: Indication) -> Lit
     let was = l.places[i];
     let call = a.call;
     let place = a.place;
-    let last = l.last;
-    let invoke = Invoke(std::num::wrapping_add_u16(last.0, 1));
+    let invoke = Invoke(l.last.0.wrapping_add(1));
     let now = new_lamp(n, call, invoke);
     let stopped = was.timers();
     let started = now.timers();
-    let mut next = l;
-    next.places[i] = now;
-    next.last = invoke;
+    let mut lamps = l;
+    lamps.places[i] = now;
+    lamps.last = invoke;
     Lit {
-        lamps: next,
-        notice: Notice {
-            asks: Asks::Each(n),
+        lamps,
+        notice: Some(Notice {
+            asks: n,
             call,
             place,
             invoke,
             stopped,
             started,
-        },
+        }),
     }
 }
 
-// What the answer to an accepted event sends, at the index of its place.
-pub(crate) fn notify(l: Lamps, i: usize, kind: u8, before: State, a: Answer) -> Lit
-    requires { i < place_count }
-    ensures { result ≡ lit_by l i a (asks_for kind before a.state) }
+// What the answer to an accepted event sends, where this is the table before it.
+pub(crate) fn notify(l: Lamps, t: &Table, e: Event, a: Answer) -> Lit
+    requires { (1 ≤ a.place.0) × (a.place.0 ≤ place_count) }
+    ensures { result ≡ lit_at l t.now e a (index_of a.place.0) }
 {
-    match asks_for(kind, before, a.state) {
-        Asks::NoOne => leave(l),
-        Asks::Each(n) => ask_each(l, i, a, n),
+    let i = (a.place.0 - 1) as usize;
+    match asks_for(e.kind, t.places[i].state, a.state) {
+        None => leave(l),
+        Some(n) => ask_each(l, i, a, n),
     }
 }

@@ -1,12 +1,13 @@
 // What a member answers, or that it does not: a Return Result, a Return Error, a Reject and an expiry of T4 or T5 all do the same. A reply settles
 // the pending request that has its call, its member, its number and its On or Off.
 
-ghost use Rattle.std.specs.Prelude.{◌≡◌, ◌<◌, ◌≤◌};
+ghost use Rattle.std.specs.Prelude.{◌≡◌, ◌+◌, ◌<◌, ◌≤◌, true, false, MatchOption};
 ghost use Rattle.table.specs.Places.{place_count};
-ghost use Rattle.lamps.specs.Reply.{same_request, is_pending, find_pending, refused_reply, replied, settled_at, settled_of};
+ghost use Rattle.lamps.specs.Members.{is_member};
+ghost use Rattle.lamps.specs.Reply.{same_request, is_pending, find_pending, refusal_number, settled_at, refused_reply, settled_of};
 
-use crate::members::{Indication, Lamp, Lamps, is_one_to};
-use table::{Call, Found, Invoke, Place, Table, search};
+use crate::members::{Indication, Lamp, Lamps, Timer, is_member};
+use table::{Call, Invoke, Place, search};
 
 #[derive(Clone, Copy)]
 pub struct Reply {
@@ -16,100 +17,109 @@ pub struct Reply {
     pub indication: Indication,
 }
 
-// What a reply came to. Accepted: number 0, the place whose request it settles, the timer that stops there for the member. Refused: 31 or 32, zeros,
-// and the lamps as they were.
+// A reply of one of the eight members.
+#[derive(Clone, Copy)]
+struct MemberReply {
+    reply: Reply,
+    ghost from_1: { 1 ≤ reply.member },
+    ghost to_8: { reply.member ≤ 8 },
+}
+
+// The place whose request a reply settles, and the timer that stops there for the member.
+#[derive(Clone, Copy)]
+pub struct Settled {
+    pub place: Place,
+    pub stopped: Timer,
+}
+
+#[derive(Clone, Copy, PartialEq, Eq, Debug)]
+pub enum ReplyRefusal {
+    NoSuchMember = 31,
+    NotPending = 32,
+}
+
+// What a reply came to, and the lamps after it: those before it where it is refused.
 #[derive(Clone, Copy)]
 pub struct Settlement {
-    pub number: u8,
-    pub place: Place,
-    pub stopped: u8,
     pub lamps: Lamps,
+    pub answer: Result<Settled, ReplyRefusal>,
 }
 
-// Are On or Off, the number and the call those of the request?
-fn same_request(r: Reply, x: Lamp) -> bool
-    ensures { result ≡ same_request r x }
-{
-    let here = x.indication;
-    let there = r.indication;
-    if here.same(there) {
-        if x.invoke.0 == r.invoke.0 {
-            let a = x.call;
-            let b = r.call;
-            search::same_call(a, b)
+// The paper's number.
+impl From<ReplyRefusal> for u8 {
+    ghost from_gives = { λ w n. n ≡ refusal_number w };
+
+    fn from(w: ReplyRefusal) -> u8 {
+        w as u8
+    }
+}
+
+impl Reply {
+    // Are On or Off, the number and the call those of the request?
+    fn same_request(self, x: Lamp) -> bool
+        ensures { result ≡ same_request self x }
+    {
+        x.indication == self.indication
+            && x.invoke == self.invoke
+            && search::same_call(x.call, self.call)
+    }
+}
+
+impl MemberReply {
+    fn of(reply: Reply) -> Option<MemberReply>
+        ensures { MatchOption result (is_member reply.member ≡ false) (λ m. (is_member reply.member ≡ true) × (m.reply ≡ reply)) }
+    {
+        if is_member(reply.member) {
+            Some(MemberReply { reply })
         } else {
-            false
+            None
         }
-    } else {
-        false
     }
-}
 
-// .. and has the member still to reply to it?
-fn is_pending(r: Reply, x: Lamp) -> bool
-    requires { (1 ≤ r.member) × (r.member ≤ 8) }
-    ensures { result ≡ is_pending r x }
-{
-    let m = (r.member - 1) as usize;
-    let pending = x.pending;
-    if pending[m] {
-        same_request(r, x)
-    } else {
-        false
+    // The index of the member.
+    fn index(self) -> usize
+        ensures { result + 1 ≡ self.reply.member }
+    {
+        (self.reply.member - 1) as usize
     }
-}
 
-// The lowest index where it is pending.
-fn find_pending(l: Lamps, r: Reply) -> Found
-    requires { (1 ≤ r.member) × (r.member ≤ 8) }
-    ensures { result ≡ find_pending r 0 l.places }
-{
-    let mut i: usize = 0;
-    while i < Table::PLACES {
-        let x = l.places[i];
-        if is_pending(r, x) {
-            return Found::At(i);
+    // Is it the request's, and has the member still to reply to that?
+    fn is_pending(self, x: Lamp) -> bool
+        ensures { result ≡ is_pending self.reply x }
+    {
+        x.pending[self.index()] && self.reply.same_request(x)
+    }
+
+    // The lowest index where it is pending.
+    fn find_pending(self, l: Lamps) -> Option<usize>
+        ensures { result ≡ find_pending self.reply l.places }
+    {
+        l.places.iter().position(|x| self.is_pending(*x))
+    }
+
+    // The member has replied at the place with this index.
+    fn settle_at(self, l: Lamps, i: usize) -> Settlement
+        requires { i < place_count }
+        ensures { result ≡ settled_at l self.reply i }
+    {
+        let mut next = l;
+        next.places[i].pending[self.index()] = false;
+        Settlement {
+            lamps: next,
+            answer: Ok(Settled {
+                place: Place::at(i),
+                stopped: l.places[i].indication.timer(),
+            }),
         }
-        i += 1;
     }
-    Found::Nothing
 }
 
-fn refuse(l: Lamps, number: u8) -> Settlement
-    ensures { result ≡ refused_reply l number }
+fn refuse(l: Lamps, w: ReplyRefusal) -> Settlement
+    ensures { result ≡ refused_reply l w }
 {
     Settlement {
-        number,
-        place: Place(0),
-        stopped: 0,
         lamps: l,
-    }
-}
-
-// The member has replied.
-fn rest(x: Lamp, member: u8) -> Lamp
-    requires { (1 ≤ member) × (member ≤ 8) }
-    ensures { result ≡ replied x member }
-{
-    let mut next = x;
-    next.pending[(member - 1) as usize] = false;
-    next
-}
-
-fn settle_at(l: Lamps, r: Reply, i: usize) -> Settlement
-    requires { (i < place_count) × ((1 ≤ r.member) × (r.member ≤ 8)) }
-    ensures { result ≡ settled_at l r i }
-{
-    let was = l.places[i];
-    let stopped = was.state_of(r.member).timer();
-    let now = rest(was, r.member);
-    let mut next = l;
-    next.places[i] = now;
-    Settlement {
-        number: 0,
-        place: Place::at(i),
-        stopped,
-        lamps: next,
+        answer: Err(w),
     }
 }
 
@@ -117,12 +127,11 @@ fn settle_at(l: Lamps, r: Reply, i: usize) -> Settlement
 pub fn settle(l: Lamps, r: Reply) -> Settlement
     ensures { result ≡ settled_of l r }
 {
-    if is_one_to(Lamps::MEMBERS, r.member as usize) {
-        match find_pending(l, r) {
-            Found::At(i) => settle_at(l, r, i),
-            Found::Nothing => refuse(l, 32),
-        }
-    } else {
-        refuse(l, 31)
+    let Some(m) = MemberReply::of(r) else {
+        return refuse(l, ReplyRefusal::NoSuchMember);
+    };
+    match m.find_pending(l) {
+        Some(i) => m.settle_at(l, i),
+        None => refuse(l, ReplyRefusal::NotPending),
     }
 }

@@ -3,8 +3,13 @@ use mathlib.Core.Path.{◌≡◌, refl, sym, ◌∙◌}
 use mathlib.Core.Bool.{Bool, true, false, ◌&&◌, false≢true}
 use mathlib.Core.Logic.{◌⊎◌, inl, inr}
 use Prim.Native.Nat.{ℕ, ◌<◌, ◌≤◌}
+use native.Mathlib.Omega.{arith}
 use lib.Dec.{eqb, ltb}
 use borrow.Author.Tests.{eqb-true, eqb-false, ltb-true, ltb-false}
+
+-- where two different constructors are equal, so are 0 and 1 (by `cc`)
+pub impossible : {A : Type 0} → ◌≡◌ {A = ℕ} 0 1 → A
+impossible z = absurd (omega (arith, z))
 
 -- a test that is both passed and failed
 pub never : {A : Type 0} → false ≡ true → A

@@ -4,7 +4,7 @@ use lib.Seq.{sets, sets-eq}
 use borrow.Rule.Slice.PartMut.{put_mid}
 use Rattle.laws.proofs.Runs.{part_rest}
 
-none_taken : (l : List ℕ) → take 0 l ≡ []
+pub none_taken : (l : List ℕ) → take 0 l ≡ []
 none_taken [] = refl
 none_taken (x ∷ l) = refl
 

@@ -5,9 +5,9 @@ use lib.Seq.{sets, length-sets}
 use Rattle.laws.proofs.Runs.{sets_append}
 use Rattle.lines.specs.AnswerLine.{answer_line, answer_room}
 use Rattle.lent.specs.declared.session.Session.{Session}
-use Rattle.lent.specs.Session.{end_line, restart, after_piece, said}
+use Rattle.lent.specs.Session.{end_line, restart, after_piece, said, kept_by}
 use Rattle.lent.specs.Keep.{until_feed}
-use Rattle.lent.proofs.KeepLaws.{kept_by, kept_size, feed_after, feed_said, last_after_lem, last_said}
+use Rattle.lent.proofs.KeepLaws.{kept_size, feed_after, feed_said, last_after_lem, last_said}
 
 -- a piece, the buffer and the session before it; the session, the buffer, the count of octets written and the index now
 pub record Feeding (piece out₀ : List ℕ) (s₀ s : Session) (out : List ℕ) (at i : ℕ) : Type 0 where

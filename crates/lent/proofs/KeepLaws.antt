@@ -1,15 +1,25 @@
 -- Keeping a line: where its feed is, what is kept of it as one run of stores, and what the kept octets are to a session. Then a whole line
 -- of a piece, up to its feed.
-use Rattle.std.proofs.Common.{◌≡◌, ℕ, suc, ◌+◌, ◌-◌, ◌<◌, ◌≤◌, min, Bool, true, false, cond, eqb, ltb, List, [], ◌∷◌, ◌++◌, length, get_or, take, drop, set, sym, refl, ap, ◌∙◌, not-suc-le-zero, add-one, arith, length-drop, length-set, drop_of_length-le, get_or-drop, take_all, drop-cons, drop-drop, ltb-false, ltb-true, eq-eqb, ne_eqb, eqb-true}
+use Rattle.std.proofs.Common.{◌≡◌, ℕ, suc, ◌+◌, ◌-◌, ◌<◌, ◌≤◌, min, Bool, true, false, cond, eqb, ltb, List, [], ◌∷◌, ◌++◌, length, get_or, take, drop, set, sym, refl, ap, ◌∙◌, ⊎_elim, not-suc-le-zero, add-one, arith, length-drop, length-set, drop_of_length-le, get_or-drop, take_all, drop-cons, drop-drop, ltb-false, ltb-true, eqb-true, eq-eqb, ne_eqb}
 use native.Mathlib.Nat.{zero-min, min-zero}
 use lib.Seq.{sets, take-nil}
+use Rattle.laws.proofs.Bools.{less_or}
 use Rattle.laws.proofs.Runs.{at_step}
 use Rattle.lent.specs.declared.session.Session.{Session}
-use Rattle.lent.specs.Session.{restart, end_line, after_piece, said}
-use Rattle.lent.specs.Keep.{at_most_63, kept_from, len_from, until_feed}
+use Rattle.lent.specs.Session.{restart, end_line, after_piece, said, kept_by}
+use Rattle.lent.specs.Keep.{kept_from, len_from, until_feed}
 use Rattle.lines.specs.AnswerLine.{answer_line}
+use Rattle.lent.proofs.Ends.{none_taken}
 
--- ---- looking for the feed: one turn, at the octet of index i, and its end
+-- ---- looking for the feed
+
+pub until_within : (os : List ℕ) → until_feed os ≤ length os
+until_within [] = omega arith
+until_within (o ∷ os) = by (eqb o 10) (until_within os)
+  where
+    by : (b : Bool) → until_feed os ≤ length os → cond b 0 (suc (until_feed os)) ≤ length (o ∷ os)
+    by true h = omega arith
+    by false h = omega arith
 
 module _ (piece : List ℕ) (i : ℕ) where
   module _ (h : i < length piece) where
@@ -54,9 +64,6 @@ len_run (o ∷ os) len = by (eqb o 10) (ltb len 63) refl (λ n. len_run os n)
 
 -- ---- what is kept, to a session
 
-abbrev pub kept_by : Session → List ℕ → Session
-kept_by s os = record { image = s.image; kept = kept_from s.kept s.len os; len = len_from s.len os }
-
 -- the two equations below at an octet, with b where it is a feed and c where there is room for it
 abbrev GoesOn : Session → ℕ → List ℕ → Bool → Bool → Type 0
 GoesOn s o os b c =
@@ -100,20 +107,24 @@ kept_size kept n (o ∷ os) = by (eqb o 10) (ltb n 63) (kept_size (set kept n o)
     by false true p q = p ∙ length-set kept n o
     by false false p q = q
 
-pub at_most_le : (n : ℕ) → at_most_63 n ≤ 63
-at_most_le n = by (ltb n 63) refl
-  where
-    by : (b : Bool) → ltb n 63 ≡ b → cond b n 63 ≤ 63
-    by true q = omega (arith, ltb-true n 63 q)
-    by false q = omega arith
+pub at_most_le : (n : ℕ) → min n 63 ≤ 63
+at_most_le n = omega arith
 
 -- all of a buffer of 63 is what at most 63 octets of it are
-pub take_at_most : (n : ℕ) (kept : List ℕ) → length kept ≡ 63 → take (at_most_63 n) kept ≡ take n kept
-take_at_most n kept size = by (ltb n 63) refl
-  where
-    by : (b : Bool) → ltb n 63 ≡ b → take (cond b n 63) kept ≡ take n kept
-    by true q = refl
-    by false q = take_all 63 kept (omega arith) ∙ sym (take_all n kept (omega (arith, ltb-false n 63 q)))
+pub take_at_most : (n : ℕ) (kept : List ℕ) → length kept ≡ 63 → take (min n 63) kept ≡ take n kept
+take_at_most n kept size =
+    ⊎_elim
+    (λ low. let all : min n 63 ≡ n = omega arith in rw all)
+    (λ high. let all : min n 63 ≡ 63 = omega arith in rw all (take_all 63 kept (omega arith) ∙ sym (take_all n kept (omega arith))))
+    (less_or n 63)
+
+-- past its end none is kept
+pub kept_within : (n k : ℕ) (kept os : List ℕ) → k ≤ 63 - n → sets kept (min n 63) (take k os) ≡ sets kept n (take k os)
+kept_within n k kept os h =
+    ⊎_elim
+    (λ low. let all : min n 63 ≡ n = omega arith in rw all)
+    (λ high. let zero : k ≡ 0 = omega arith in let none : take k os ≡ [] = ap (λ (m : ℕ). take m os) zero ∙ none_taken os in rw none)
+    (less_or n 63)
 
 -- ---- a line of a piece, from index i up to its feed at e
 

@@ -1,7 +1,7 @@
 -- At the image of a sound table, what is done octet by octet is the step of the machine: the answer is its answer, and what is left is the
 -- image of its table. One record is put, and a record put in an image makes the image of the table with that record put (`place_put_lem`). An image
 -- that was read is the image of its table (`image_written_back`), and a table by value is what is read from its image (`table_back`).
-use Rattle.std.proofs.Common.{◌≡◌, ℕ, ◌<◌, Bool, true, false, cond, eqb, List, length, sym, refl, ap, ◌∙◌, ne_eqb, eqb-true}
+use Rattle.std.proofs.Common.{◌≡◌, ℕ, ◌<◌, Bool, true, false, cond, Option, Some, None, Result, Ok, Err, IfOk, eqb, List, length, sym, refl, ap, ◌∙◌, ne_eqb, eqb-true, arith}
 use borrow.Author.Tests.{eqb-false}
 use Rattle.laws.proofs.Bools.{and_left, and_right}
 use Rattle.table.specs.declared.Record.{Record}
@@ -12,44 +12,48 @@ use Rattle.table.specs.Sound.{is_sound}
 use Rattle.events.specs.declared.Event.{Event}
 use Rattle.events.specs.declared.Acted.{Acted}
 use Rattle.events.specs.declared.rule.Rule.{Rule}
-use Rattle.events.specs.declared.rule.Rule.TheVariants.{Start, On, Unknown}
+use Rattle.events.specs.declared.rule.Rule.TheVariants.{Start, On}
+use Rattle.events.specs.declared.refusal.Refusal.{Refusal}
 use Rattle.events.specs.declared.turn.Outcome.{Outcome}
-use Rattle.events.specs.declared.turn.Outcome.TheVariants.{Refused, Freed, Becomes}
+use Rattle.events.specs.declared.turn.Outcome.TheVariants.{Freed, Becomes}
 use Rattle.events.specs.Rule.{rule_of}
 use Rattle.events.specs.Refusal.{refusal_number}
-use Rattle.events.specs.declared.message.Message.TheVariants.{NoMessage}
 use Rattle.events.specs.Turn.{turn}
-use Rattle.events.specs.Answers.{saying}
 use Rattle.events.specs.Act.{stay_call, left, acted}
-use Rattle.step.specs.declared.aim.Aim.{Aim}
-use Rattle.step.specs.declared.aim.Aim.TheVariants.{To, Nowhere}
 use Rattle.step.specs.Aim.{aim}
 use Rattle.step.specs.Step.{carried_out, step_any, step_of}
 use Rattle.step.proofs.Aims.{aim_inside}
 use Rattle.step.proofs.Promises.{refusal_keeps}
 use Rattle.events.proofs.Refusals.{refused_not_0}
-use Rattle.lines.specs.declared.ReadEvent.{ReadEvent}
+use Rattle.lines.specs.declared.BadLine.{BadLine}
+use Rattle.lines.specs.declared.BadLine.TheVariants.{TooLong, WrongCount, BadNumber, BadCall}
 use Rattle.lines.specs.EventLine.{read_line}
+use Rattle.lines.specs.EventLine.{refusal_number as line_number}
+use Rattle.lines.specs.Round.{EventInRange}
 use Rattle.lent.specs.LineStep.{step_read}
 use Rattle.lines.proofs.Ranged.{read_ranged}
-use Rattle.image.specs.Image.{Fit, image_of, place_put, states_fit, table_from, is_sound_image, image_octets}
+use Rattle.image.specs.Image.{Fit, image_of, place_put, states_fit, places_sound, table_from, is_sound_image, image_octets}
 use Rattle.image.specs.Round.{Octets}
-use Rattle.image.proofs.Round.{table_back, fit_from, image_written_back}
+use Rattle.image.proofs.Round.{test_of_image, table_back, fit_from, image_written_back}
 use Rattle.image.proofs.Puts.{place_put_lem, put_fit}
-use Rattle.lent.specs.Lent.{step_on, left_on, written_at, left_for, event_answer, event_image}
-use Rattle.lent.specs.Kept.{EventAnswersStep, EventLeavesStep, LineOctetByOctet, StepReadsBack}
+use Rattle.lent.specs.Lent.{written_at, left_for, event_answer, event_image}
+use Rattle.lent.specs.Kept.{answer_to_read, image_after_read, EventAnswersStep, EventLeavesStep, LineOctetByOctet, StepReadsBack}
+
+-- the test of the octets of a table's image is the test of the table
+pub tested : {t : Table} {octets : List ℕ} {sound : Bool} → sound ≡ places_sound octets → (octets ≡ image_of t) × Fit t → sound ≡ is_sound t
+tested {t} e there = e ∙ ap places_sound there.0 ∙ test_of_image t there.1
 
 -- what is left at a place has a call of 16 octets, where the event and the record have
 module _ (e : Event) (i : ℕ) (r : Record) (given : length e.call ≡ 16) (held : length r.call ≡ 16) where
-  left_long : (call : List ℕ) (u : Outcome) → length call ≡ 16 → length (left e i r call u).after.call ≡ 16
-  left_long call (Refused w) h = held
-  left_long call (Freed first second) h = refl
-  left_long call (Becomes g n m) h = h
+  left_long : (call : List ℕ) (u : Result Outcome Refusal) → length call ≡ 16 → length (left e i r call u).after.call ≡ 16
+  left_long call (Err w) h = held
+  left_long call (Ok (Freed first second)) h = refl
+  left_long call (Ok (Becomes g n m)) h = h
 
-  stay_long : (k : Rule) → length (stay_call k e r) ≡ 16
-  stay_long (Start d) = given
-  stay_long (On s) = held
-  stay_long Unknown = held
+  stay_long : (k : Option Rule) → length (stay_call k e r) ≡ 16
+  stay_long (Some (Start d)) = given
+  stay_long (Some (On s)) = held
+  stay_long None = held
 
   pub acted_long : length (acted e i r).after.call ≡ 16
   acted_long = left_long (stay_call (rule_of e.kind) e r) (turn (rule_of e.kind) (side_at i) r e) (stay_long (rule_of e.kind))
@@ -63,10 +67,10 @@ module _ (t : Table) (f : Fit t) (sound : is_sound t ≡ true) (e : Event) (give
   place_kept i a inside whole true = place_put_lem t f i inside a.after whole
   place_kept i a inside whole false = refl
 
-  by_aim : (k : Rule) → rule_of e.kind ≡ k → (a : Aim) → aim k t e ≡ a
+  by_aim : (k : Option Rule) → rule_of e.kind ≡ k → (a : Result ℕ Refusal) → aim k t e ≡ a
       → left_for (image_of t) e a ≡ cond (eqb (carried_out k t e a).answer.number 0) (image_of (carried_out k t e a).table) (image_of t)
-  by_aim k rule (Nowhere w) q = rw (ne_eqb (refusal_number w) 0 (refused_not_0 w))
-  by_aim k rule (To i) q =
+  by_aim k rule (Err w) q = rw (ne_eqb (refusal_number w) 0 (refused_not_0 w))
+  by_aim k rule (Ok i) q =
       let inside : i < place_count = aim_inside t f.size k e i q in
       let r : Record = record_at t i in
       ap (λ (u : Table). written_at (image_of t) i (acted e i (record_at u i))) (table_back t f)
@@ -91,9 +95,9 @@ module _ (t : Table) (f : Fit t) (sound : is_sound t ≡ true) (e : Event) (give
       by false q = ap image_of (sym (refusal_keeps t e (f.size, f.wide) (eqb-false _ 0 q)))
 
   -- the table after it is as the types say
-  fit_at : (a : Aim) → aim (rule_of e.kind) t e ≡ a → Fit (carried_out (rule_of e.kind) t e a).table
-  fit_at (Nowhere w) q = f
-  fit_at (To i) q =
+  fit_at : (a : Result ℕ Refusal) → aim (rule_of e.kind) t e ≡ a → Fit (carried_out (rule_of e.kind) t e a).table
+  fit_at (Err w) q = f
+  fit_at (Ok i) q =
       let inside : i < place_count = aim_inside t f.size (rule_of e.kind) e i q in
       put_fit t f i inside (acted e i (record_at t i)).after (acted_long e i (record_at t i) given (f.calls i inside))
 
@@ -130,6 +134,13 @@ image_kept image octets good e given =
     ap (λ (o : List ℕ). event_image o e) (sym (image_written_back image octets good))
     ∙ image_after_lem (table_from image) (image_fit image good) (image_sound image good) e given
 
+-- a line that is refused has a number
+bad_not_0 : (b : BadLine) → line_number b ≡ 0 → ⊥
+bad_not_0 TooLong e = absurd (omega arith)
+bad_not_0 WrongCount e = absurd (omega arith)
+bad_not_0 BadNumber e = absurd (omega arith)
+bad_not_0 BadCall e = absurd (omega arith)
+
 module _ (image : List ℕ) (octets : Octets image) (good : is_sound_image image ≡ true) where
   abbrev held : Table
   held = table_from image
@@ -143,20 +154,13 @@ module _ (image : List ℕ) (octets : Octets image) (good : is_sound_image image
       ∙ image_of_lem held (image_fit image good) (image_sound image good) e given
       ∙ ap (λ (o : List ℕ). cond (eqb (step_of held e).answer.number 0) (image_of (step_of held e).table) o) written_back
 
-  -- by whether the line is read
-  pub line_by : (line : List ℕ) (b : Bool) → eqb (read_line line).number 0 ≡ b
-      → (cond b (event_answer image (read_line line).event) (saying (read_line line).number NoMessage) ≡ (step_on image line).answer)
-      × (cond b (event_image image (read_line line).event) image ≡ left_on image line)
-  line_by line b said = rw good (by (read_line line) b said (read_ranged line).event.call.long)
-    where
-      by : (r : ReadEvent) (b : Bool) → eqb r.number 0 ≡ b → length r.event.call ≡ 16
-          → (cond b (event_answer image r.event) (saying r.number NoMessage) ≡ (step_read held r).answer)
-          × (cond b (event_image image r.event) image ≡ cond (eqb (step_read held r).answer.number 0) (image_of (step_read held r).table) image)
-      by r true q l = rw q (answer_kept image octets good r.event l, image_left r.event l)
-      by r false q l =
-          let stays : image ≡ cond (eqb r.number 0) (image_of held) image = rw q in
-          (rw q, rw q stays)
+  -- by what the line reads as
+  pub by_reading : (r : Result Event BadLine) → IfOk r EventInRange
+      → (answer_to_read image r ≡ (step_read held r).answer)
+      × (image_after_read image r ≡ cond (eqb (step_read held r).answer.number 0) (image_of (step_read held r).table) image)
+  by_reading (Ok e) l = (answer_kept image octets good e l.call.long, image_left e l.call.long)
+  by_reading (Err b) l = (refl, rw (ne_eqb (line_number b) 0 (bad_not_0 b)))
 
 -- THE LINE AT THE IMAGE: the event that it says, or its refusal
 pub line_kept : LineOctetByOctet
-line_kept image octets good line = line_by image octets good line (eqb (read_line line).number 0) refl
+line_kept image octets good line = rw good (by_reading image octets good (read_line line) (read_ranged line).event)

@@ -1,8 +1,11 @@
+pub mod Found
 pub mod Kept
+pub mod Made
 pub mod Short
 pub mod Tables
 pub mod Unique
 pub mod Cut
 pub mod KeepLaws
+pub mod Bytes
 pub mod Ends
 pub mod Feeds

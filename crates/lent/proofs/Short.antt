@@ -1,12 +1,13 @@
 -- No answer to a line is longer than the longest that a step gives: that of a line which reads is one of a step, and that of any other line, or of
 -- any line at a refused image, is a number and zeros.
-use Rattle.std.proofs.Common.{◌≡◌, ℕ, ◌+◌, ◌<◌, ◌≤◌, Bool, true, false, eqb, List, length, get_or, refl, arith, lit≤, eqb-true}
+use Rattle.std.proofs.Common.{◌≡◌, ℕ, ◌+◌, ◌<◌, ◌≤◌, Bool, true, false, Result, Ok, Err, eqb, List, length, get_or, refl, arith, lit≤, eqb-true}
 use Rattle.laws.proofs.Bools.{and_left}
 use Rattle.table.specs.declared.Table.{Table}
 use Rattle.table.specs.Places.{place_count, record_at}
-use Rattle.lines.specs.declared.ReadEvent.{ReadEvent}
+use Rattle.events.specs.declared.Event.{Event}
+use Rattle.lines.specs.declared.BadLine.{BadLine}
 use Rattle.lines.specs.AnswerLine.{answer_line}
-use Rattle.lines.specs.EventLine.{read_line}
+use Rattle.lines.specs.EventLine.{refusal_number, read_line}
 use Rattle.lines.proofs.Ranged.{Ranged, read_ranged}
 use Rattle.room.specs.Room.{TypedTable, longest}
 use Rattle.room.proofs.Room.{none_longer, number_short}
@@ -19,12 +20,9 @@ use Rattle.lent.specs.Lent.{step_on}
 pub line_short : (t : Table) (line : List ℕ) → TypedTable t → length (answer_line (line_step t line).answer) ≤ longest
 line_short t line typed = by (read_line line) (read_ranged line)
   where
-    by : (r : ReadEvent) → Ranged r → length (answer_line (step_read t r).answer) ≤ longest
-    by r x = on (eqb r.number 0) refl
-      where
-        on : (b : Bool) → eqb r.number 0 ≡ b → length (answer_line (step_read t r).answer) ≤ longest
-        on true q = rw q (none_longer t r.event typed (record { call = x.event.call.long; connection = x.event.connection }))
-        on false q = rw q (number_short r.number (omega (arith, x.number)))
+    by : (r : Result Event BadLine) → Ranged r → length (answer_line (step_read t r).answer) ≤ longest
+    by (Ok e) x = none_longer t e typed (record { call = x.event.call.long; connection = x.event.connection })
+    by (Err b) x = number_short (refusal_number b) (omega (arith, x.number))
 
 -- two octets are a number of 16 bits
 connection_from : (s : List ℕ) → ((k : ℕ) → get_or s k 0 < 256) → (i : ℕ) → i < place_count → (record_at (table_from s) i).connection.0 ≤ 65535

@@ -1,6 +1,6 @@
 -- The image of a sound table, line after line: it is read as that table, and what a line leaves is the image of a sound table again. So an
 -- image that was read once need not be looked through before the next line.
-use Rattle.std.proofs.Common.{◌≡◌, ℕ, zero, suc, ◌+◌, ◌*◌, Bool, true, false, cond, eqb, List, ◌++◌, length, replicate, sym, refl, ap, ◌∙◌, arith}
+use Rattle.std.proofs.Common.{◌≡◌, ℕ, zero, suc, ◌+◌, ◌*◌, Bool, true, false, cond, Result, Ok, Err, IfOk, eqb, List, ◌++◌, length, replicate, sym, refl, ap, ◌∙◌, arith}
 use lib.ListN.{length-replicate, get_or-replicate, replicate-append-replicate}
 use borrow.Author.Tests.{eqb-false}
 use Rattle.table.specs.declared.Table.{Table}
@@ -8,13 +8,12 @@ use Rattle.table.specs.Places.{free_record, empty_table, blank, place_count}
 use Rattle.table.specs.Sound.{is_sound}
 use Rattle.table.proofs.Facts.{empty_sound}
 use Rattle.events.specs.declared.Event.{Event}
-use Rattle.events.specs.declared.message.Message.TheVariants.{NoMessage}
-use Rattle.events.specs.Answers.{saying}
 use Rattle.step.specs.Step.{step_of}
 use Rattle.step.proofs.Promises.{keeps_sound, refusal_keeps}
-use Rattle.lines.specs.declared.ReadEvent.{ReadEvent}
+use Rattle.lines.specs.declared.BadLine.{BadLine}
 use Rattle.lines.specs.EventLine.{read_line}
-use Rattle.lent.specs.LineStep.{line_step}
+use Rattle.lines.specs.Round.{EventInRange}
+use Rattle.lent.specs.LineStep.{step_read, line_step}
 use Rattle.lines.proofs.Ranged.{read_ranged}
 use Rattle.image.specs.Image.{Fit, octets_of, octets_of_all, image_of, table_from, is_sound_image, read_image, place_octets, image_octets}
 use Rattle.image.proofs.Round.{image_tested, image_reads_back, image_written_back}
@@ -37,21 +36,19 @@ module _ (t : Table) (g : Good t) (e : Event) (given : length e.call ≡ 16) whe
 
 module _ (t : Table) (g : Good t) (line : List ℕ) where
   pub line_good : Good (line_step t line).table
-  line_good = by (read_line line) (eqb (read_line line).number 0) (read_ranged line).event.call.long
+  line_good = by (read_line line) (read_ranged line).event
     where
-      by : (r : ReadEvent) (b : Bool) → length r.event.call ≡ 16
-          → Good (cond b (step_of t r.event) (record { table = t; answer = saying r.number NoMessage })).table
-      by r true l = event_good t g r.event l
-      by r false l = g
+      by : (r : Result Event BadLine) → IfOk r EventInRange → Good (step_read t r).table
+      by (Ok e) l = event_good t g e l.call.long
+      by (Err b) l = g
 
   -- a refused line keeps the table
   refused_line : (eqb (line_step t line).answer.number 0 ≡ false) → (line_step t line).table ≡ t
-  refused_line = by (read_line line) (eqb (read_line line).number 0)
+  refused_line = by (read_line line)
     where
-      by : (r : ReadEvent) (b : Bool) → eqb (cond b (step_of t r.event) (record { table = t; answer = saying r.number NoMessage })).answer.number 0 ≡ false
-          → (cond b (step_of t r.event) (record { table = t; answer = saying r.number NoMessage })).table ≡ t
-      by r true q = refusal_keeps t r.event (g.fit.size, g.fit.wide) (eqb-false _ 0 q)
-      by r false q = refl
+      by : (r : Result Event BadLine) → eqb (step_read t r).answer.number 0 ≡ false → (step_read t r).table ≡ t
+      by (Ok e) q = refusal_keeps t e (g.fit.size, g.fit.wide) (eqb-false _ 0 q)
+      by (Err b) q = refl
 
   -- THE LINE AT THE IMAGE OF THE TABLE
   pub on_image : step_on (image_of t) line ≡ line_step t line

@@ -7,7 +7,9 @@ use Rattle.lent.proofs.session.Session.start.Reads as start
 use Rattle.lent.proofs.session.feed.Reads as feed
 use Rattle.lent.proofs.session.finish.Reads as finish
 use Rattle.lent.proofs.status.status_of.Reads as status-of
+use Rattle.lent.proofs.status.status_said.Reads as status-said
 use Rattle.lent.proofs.places.read_image.Reads as read-image
+use Rattle.lent.proofs.places.table_said.Reads as table-said
 use Rattle.lent.proofs.places.write_image.Reads as write-image
 use Rattle.lent.proofs.answer_line.Reads as answer-line
 
@@ -17,8 +19,14 @@ single_step_decided κ a x y d e p q = p ∙ sym q
 pub status_of_decided : Decides status-of.Post
 status_of_decided κ a x y d e p q = p ∙ sym q
 
+pub status_said_decided : Decides status-said.Post
+status_said_decided κ a x y d e p q = p ∙ sym q
+
 pub read_image_decided : Decides read-image.Post
 read_image_decided κ a x y d e p q = p ∙ sym q
+
+pub table_said_decided : Decides table-said.Post
+table_said_decided κ a x y d e p q = p ∙ sym q
 
 -- the buffer is the second parameter
 pub write_image_decided : DecidesMemory write-image.Post (λ κ d. d.1.0.now)

@@ -1,9 +1,6 @@
 -- Taking the octets of a line into a buffer of 63, up to the line feed or the end of the piece.
 use Rattle.std.specs.Prelude.{ℕ, suc, ◌+◌, cond, List, [], ◌∷◌, ◌==◌, nat_lt, slice_set}
 
-abbrev pub at_most_63 : ℕ → ℕ
-at_most_63 n = cond (nat_lt n 63) n 63
-
 -- the buffer after the octets before the first feed, each kept as long as there is room
 abbrev pub kept_from : List ℕ → ℕ → List ℕ → List ℕ
 kept_from kept len [] = kept

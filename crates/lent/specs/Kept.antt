@@ -1,16 +1,17 @@
 -- A line at an image is the line at its table, and what the code does octet by octet is the step of the machine. Each statement is proved under the
 -- name that stands beside it, the lines in `proofs/Tables.antt` and what is done octet by octet in `proofs/Kept.antt`. They speak of an image
 -- that is read: octets of a sound table (`is_sound_image`).
-use Rattle.std.specs.Prelude.{◌≡◌, ℕ, true, cond, List, length, ◌==◌}
+use Rattle.std.specs.Prelude.{◌≡◌, ℕ, true, None, Result, Ok, Err, List, length}
 use Rattle.table.specs.declared.Table.{Table}
 use Rattle.table.specs.Places.{call_octets}
 use Rattle.table.specs.Sound.{is_sound}
 use Rattle.events.specs.declared.Event.{Event}
-use Rattle.events.specs.declared.message.Message.TheVariants.{NoMessage}
+use Rattle.events.specs.declared.Answer.{Answer}
 use Rattle.events.specs.Answers.{saying}
 use Rattle.step.specs.declared.Step.{Step}
 use Rattle.step.specs.Step.{step_of}
-use Rattle.lines.specs.EventLine.{read_line}
+use Rattle.lines.specs.declared.BadLine.{BadLine}
+use Rattle.lines.specs.EventLine.{refusal_number, read_line}
 use Rattle.image.specs.Image.{Fit, image_of, table_from, is_sound_image, read_image}
 use Rattle.image.specs.Round.{Octets}
 use Rattle.lent.specs.LineStep.{line_step}
@@ -29,7 +30,7 @@ LeavesItsImage = (image line : List ℕ) → Octets image → is_sound_image ima
 -- `read_after`: and that is read again, as the table after the line
 abbrev pub ReadAgain : Type 0
 ReadAgain = (image line : List ℕ) → Octets image → is_sound_image image ≡ true
-    → read_image (left_on image line) ≡ record { number = 0; table = (line_step (table_from image) line).table }
+    → read_image (left_on image line) ≡ Ok (line_step (table_from image) line).table
 
 -- `stays_read`: so no line makes a sound image unsound
 abbrev pub StaysRead : Type 0
@@ -47,11 +48,19 @@ abbrev pub EventLeavesStep : Type 0
 EventLeavesStep = (image : List ℕ) → Octets image → is_sound_image image ≡ true → (e : Event) → length e.call ≡ call_octets
     → event_image image e ≡ image_of (step_of (table_from image) e).table
 
+-- what is answered, and left, to a line that was read: the event at the image, or the refusal
+abbrev pub answer_to_read : List ℕ → Result Event BadLine → Answer
+answer_to_read image (Ok e) = event_answer image e
+answer_to_read image (Err b) = saying (refusal_number b) None
+
+abbrev pub image_after_read : List ℕ → Result Event BadLine → List ℕ
+image_after_read image (Ok e) = event_image image e
+image_after_read image (Err b) = image
+
 -- `line_kept`: the line at the image is the event that it says, octet by octet, or its refusal
 abbrev pub LineOctetByOctet : Type 0
 LineOctetByOctet = (image : List ℕ) → Octets image → is_sound_image image ≡ true → (line : List ℕ)
-    → (cond ((read_line line).number == 0) (event_answer image (read_line line).event) (saying (read_line line).number NoMessage) ≡ (step_on image line).answer)
-    × (cond ((read_line line).number == 0) (event_image image (read_line line).event) image ≡ left_on image line)
+    → (answer_to_read image (read_line line) ≡ (step_on image line).answer) × (image_after_read image (read_line line) ≡ left_on image line)
 
 -- `step_back`: of a table by value, the step taken at its image and read back is its step
 abbrev pub StepReadsBack : Type 0

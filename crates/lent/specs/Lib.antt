@@ -4,3 +4,4 @@ pub mod Kept
 pub mod Stream
 pub mod Session
 pub mod Keep
+pub mod Passed

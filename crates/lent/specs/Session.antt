@@ -1,6 +1,6 @@
 -- A session: the table as its image, and as much of the line that is coming as is needed to answer it. 63 octets are enough: a longer line is
 -- refused by 21 whatever follows. Octets come in pieces of any size.
-use Rattle.std.specs.Prelude.{◌≡◌, ℕ, ◌+◌, ◌/◌, ◌≤◌, Bool, true, false, cond, List, [], ◌∷◌, ◌++◌, length, take, drop, replicate, ◌==◌, nat_lt, slice_set}
+use Rattle.std.specs.Prelude.{◌≡◌, ℕ, ◌+◌, ◌/◌, ◌≤◌, Bool, true, false, cond, Result, Ok, Err, List, [], ◌∷◌, ◌++◌, length, take, drop, replicate, ◌==◌, nat_lt, slice_set}
 use Rattle.std.proofs.lemmas.List.Edits.{sets}
 use Rattle.image.specs.Image.{image_octets, is_sound_image}
 use Rattle.events.specs.declared.Answer.{Answer}
@@ -9,7 +9,7 @@ use Rattle.lines.specs.AnswerLine.{answer_line, answer_room}
 use Rattle.lent.specs.Lent.{step_on, left_on}
 use Rattle.lent.specs.declared.session.Session.{Session}
 use Rattle.lent.specs.declared.session.Fed.{Fed}
-use Rattle.lent.specs.declared.session.Kept.{Kept}
+use Rattle.lent.specs.declared.session.NoRoom.{NoRoom}
 use Rattle.lent.specs.Keep.{kept_from, len_from, until_feed}
 use Rattle.lent.specs.Stream.{answers_to}
 
@@ -57,10 +57,8 @@ said_last s = cond (s.len == 0) [] (answer_line (end_line s).answer)
 abbrev pub is_enough : List ℕ → List ℕ → Bool
 is_enough piece out = cond (nat_lt (length out / answer_room) (length piece)) false true
 
-abbrev pub fed : Session → List ℕ → List ℕ → Fed
-fed s piece out =
-    cond (is_enough piece out) (record { enough = true; session = after_piece s piece; written = length (said s piece) })
-    (record { enough = false; session = s; written = 0 })
+abbrev pub fed : Session → List ℕ → List ℕ → Result Fed NoRoom
+fed s piece out = cond (is_enough piece out) (Ok (record { session = after_piece s piece; written = length (said s piece) })) (Err (record {}))
 
 abbrev pub fed_out : Session → List ℕ → List ℕ → List ℕ
 fed_out s piece out = cond (is_enough piece out) (sets out 0 (said s piece)) out
@@ -89,21 +87,27 @@ CutAnyhow = (pieces : List (List ℕ)) → said_to_all started pieces ≡ answer
 
 -- ---- contracts of what a session calls
 
--- a line at an image of which it is known whether it is sound: no line changes that
+-- a line at an image of which it is known whether it is sound: no line changes that, and there is room for the answer
 abbrev pub AnswersKnown : Bool → List ℕ → List ℕ → Answer → List ℕ → Type 0
 AnswersKnown sound image line answer after =
-    (answer ≡ (step_on image line).answer) × (after ≡ left_on image line) × (sound ≡ is_sound_image (left_on image line))
-
--- the same, and the answer's line written from an index of a buffer on
-abbrev pub EndsLine : Bool → List ℕ → List ℕ → List ℕ → ℕ → ℕ → List ℕ → List ℕ → Type 0
-EndsLine sound image line out at count after written =
-    (count ≡ length (answer_line (step_on image line).answer))
-    × (written ≡ sets out at (answer_line (step_on image line).answer))
-    × (count ≤ answer_room)
+    (answer ≡ (step_on image line).answer)
     × (after ≡ left_on image line)
     × (sound ≡ is_sound_image (left_on image line))
+    × (length (answer_line answer) ≤ answer_room)
+
+-- the same of the line that has come, and the answer's line written from an index of a buffer on
+abbrev pub EndsLine : Bool → Session → List ℕ → ℕ → ℕ → Session → List ℕ → Type 0
+EndsLine sound s out at count after written =
+    (count ≡ length (answer_line (end_line s).answer))
+    × (written ≡ sets out at (answer_line (end_line s).answer))
+    × (count ≤ answer_room)
+    × (after ≡ restart s)
+    × (sound ≡ is_sound_image (restart s).image)
+
+-- the session that has kept the octets of its line, as far as there is room
+abbrev pub kept_by : Session → List ℕ → Session
+kept_by s os = record { image = s.image; kept = kept_from s.kept s.len os; len = len_from s.len os }
 
 -- the octets of the next line kept, of a piece from an index on
-abbrev pub KeepsLine : List ℕ → ℕ → List ℕ → ℕ → Kept → List ℕ → Type 0
-KeepsLine kept len piece from r after =
-    (r ≡ record { len = len_from len (drop from piece); end = from + until_feed (drop from piece) }) × (after ≡ kept_from kept len (drop from piece))
+abbrev pub KeepsLine : Session → List ℕ → ℕ → ℕ → Session → Type 0
+KeepsLine s piece from end after = (end ≡ from + until_feed (drop from piece)) × (after ≡ kept_by s (drop from piece))

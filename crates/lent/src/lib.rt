@@ -6,6 +6,7 @@
 #![tactic(auto)]
 
 mod aim;
+mod buckets;
 mod marks;
 mod octets;
 pub mod places;
@@ -26,33 +27,29 @@ ghost use Rattle.lent.specs.Lent.{AnswersLine, CarriesOut, ActsAt};
 
 use events::refusal::Refusal;
 use events::{Answer, Event, answers};
+use image::IMAGE_OCTETS;
 use step::Step;
-use step::aim::Aim;
-use table::Table;
+use table::{Table, Unsound};
 
 // The event at the index that it is for.
-fn act_at(image: &mut [u8], i: usize, e: Event) -> Answer
-    requires { (length image.old ≡ image_octets) × (i < place_count) }
+fn act_at(image: &mut [u8; IMAGE_OCTETS], i: usize, e: Event) -> Answer
+    requires { i < place_count }
     ensures { ActsAt image.old e i result image.new }
 {
-    let r = places::read_place(i, image);
-    let a = events::act(e, i, r);
-    let answer = a.answer;
-    if answer.number == 0 {
-        let after = a.after;
-        places::put_place(i, after, image);
+    let a = events::act(e, i, octets::read_record(image, i));
+    if a.answer.number == 0 {
+        places::put_place(image, i, a.after);
     }
-    answer
+    a.answer
 }
 
-// An event at an image. Only its length is asked for: whether it is one of a sound table is for the caller to know.
-fn act_on(image: &mut [u8], e: Event) -> Answer
-    requires { length image.old ≡ image_octets }
+// An event at an image, which may be one of a table that is not sound: that is for the caller to know.
+fn act_on(image: &mut [u8; IMAGE_OCTETS], e: Event) -> Answer
     ensures { CarriesOut image.old e (aim (rule_of e.kind) (table_from image.old) e) result image.new }
 {
     match aim::aim_of(image, e) {
-        Aim::To(i) => act_at(image, i, e),
-        Aim::Nowhere(w) => answers::decline(e, w),
+        Ok(i) => act_at(image, i, e),
+        Err(w) => answers::decline(e, w),
     }
 }
 
@@ -77,16 +74,13 @@ pub fn single_step(t: Table, e: Event) -> Step
 }
 
 // A line at the image of a sound table.
-pub(crate) fn step_line(image: &mut [u8], line: &[u8]) -> Answer
+pub(crate) fn step_line(image: &mut [u8; IMAGE_OCTETS], line: &[u8]) -> Answer
     requires { is_sound_image image.old ≡ true }
     ensures { AnswersLine image.old line.now result image.new }
 {
-    let read = lines::read_event(line);
-    if read.number == 0 {
-        let e = read.event;
-        act_on(image, e)
-    } else {
-        answers::only_number(read.number)
+    match lines::read_event(line) {
+        Ok(e) => act_on(image, e),
+        Err(bad) => answers::only_number(u8::from(bad)),
     }
 }
 
@@ -94,9 +88,8 @@ pub(crate) fn step_line(image: &mut [u8], line: &[u8]) -> Answer
 pub fn answer_line(image: &mut [u8], line: &[u8]) -> Answer
     ensures { AnswersLine image.old line.now result image.new }
 {
-    if sound::is_sound_image(image) {
-        step_line(image, line)
-    } else {
-        answers::only_number(25)
+    match image.as_mut_array() {
+        Some(image) if sound::places_sound(image) => step_line(image, line),
+        _ => answers::only_number(u8::from(Unsound)),
     }
 }

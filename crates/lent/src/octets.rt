@@ -1,84 +1,62 @@
-// The octets of one record.
+// The octets of an image, a run of them at a time, and those of one record.
+//
+// That an index is below `place_count` is asked for in a `requires`, here and in what stands on this. A type would be no plainer: each index comes from
+// a range or from a search, and would be wrapped at each, as in `(0..Table::PLACES).find(|i| holds_call(image, Index { value: *i }, call))`.
 
-ghost use Rattle.std.specs.Prelude.{◌≡◌, ◌+◌, ◌*◌, ◌<◌, ◌≤◌, length, take, drop};
+ghost use Rattle.std.specs.Prelude.{◌≡◌, ◌+◌, ◌<◌, ◌≤◌, length, take, drop};
 ghost use Rattle.std.proofs.lemmas.List.Edits.{sets};
-ghost use Rattle.table.specs.Places.{call_octets};
-ghost use Rattle.image.specs.Image.{record_octets, pair_at, record_from, octets_of};
+ghost use Rattle.table.specs.Places.{place_count, record_at};
+ghost use Rattle.image.specs.Image.{image_octets, record_octets, place_start, pair_at, octets_of, table_from};
 
-use image::{CONNECTION_OFFSET, COUNT_OFFSET};
-use table::{Call, Connection, Invoke, Record, State, Table};
+use image::{CONNECTION_OFFSET, COUNT_OFFSET, IMAGE_OCTETS, PLACE_OCTETS};
+use table::{Connection, Invoke, Record, State};
 
-fn wide(x: u8) -> u16
-    ensures { result ≡ x }
+// So many octets from an index on.
+pub(crate) fn run<const N: usize>(octets: &[u8], at: usize) -> [u8; N]
+    requires { at + N ≤ length octets.now }
+    ensures { result ≡ take N (drop at octets.now) }
 {
-    x as u16
+    let mut found = [0; N];
+    found.copy_from_slice(&octets[at..at + N]);
+    found
 }
 
-pub(crate) fn join(high: u8, low: u8) -> u16
-    ensures { result ≡ high * 256 + low }
+// Writes so many octets from an index on.
+fn put_run<const N: usize>(image: &mut [u8; IMAGE_OCTETS], at: usize, octets: [u8; N])
+    requires { at + N ≤ image_octets }
+    ensures { image.new ≡ sets image.old at octets.entry }
 {
-    wide(high) * 256 + wide(low)
+    image[at..at + N].copy_from_slice(&octets);
 }
 
-pub(crate) fn read_pair(image: &[u8], at: usize) -> u16
-    requires { at + 1 < length image.now }
+pub(crate) fn read_pair(image: &[u8; IMAGE_OCTETS], at: usize) -> u16
+    requires { at + 1 < image_octets }
     ensures { result ≡ pair_at image.now at }
 {
-    join(image[at], image[at + 1])
+    u16::from_be_bytes(run(image, at))
 }
 
-fn read_call(image: &[u8], at: usize) -> Call
-    requires { at + call_octets ≤ length image.now }
-    ensures { result ≡ take call_octets (drop at image.now) }
+// The record of one place, given by its index.
+pub(crate) fn read_record(image: &[u8; IMAGE_OCTETS], i: usize) -> Record
+    requires { i < place_count }
+    ensures { result ≡ record_at (table_from image.now) i }
 {
-    let mut a = [0u8; Table::CALL_OCTETS];
-    let mut i: usize = 0;
-    while i < Table::CALL_OCTETS {
-        a[i] = image[at + i];
-        i += 1;
-    }
-    a
-}
-
-pub(crate) fn read_record(image: &[u8], at: usize) -> Record
-    requires { at + record_octets ≤ length image.now }
-    ensures { result ≡ record_from image.now at }
-{
-    let state = State::of(image[at]);
-    let call = read_call(image, at + 1);
-    let connection = read_pair(image, at + CONNECTION_OFFSET);
-    let count = read_pair(image, at + COUNT_OFFSET);
+    let at = i * PLACE_OCTETS;
     Record {
-        state,
-        call,
-        connection: Connection(connection),
-        count: Invoke(count),
+        state: State::of(image[at]),
+        call: run(image, at + 1),
+        connection: Connection(read_pair(image, at + CONNECTION_OFFSET)),
+        count: Invoke(read_pair(image, at + COUNT_OFFSET)),
     }
 }
 
-fn put_call(out: &mut [u8], at: usize, call: Call)
-    requires { at + call_octets ≤ length out.old }
-    ensures { out.new ≡ sets out.old at call }
+pub(crate) fn put_record(image: &mut [u8; IMAGE_OCTETS], i: usize, r: Record)
+    requires { i < place_count }
+    ensures { (image.new ≡ sets image.old (place_start i) (octets_of r)) × (length (octets_of r) ≡ record_octets) }
 {
-    let mut i: usize = 0;
-    while i < Table::CALL_OCTETS {
-        out[at + i] = call[i];
-        i += 1;
-    }
-}
-
-pub(crate) fn put_record(out: &mut [u8], at: usize, r: Record)
-    requires { at + record_octets ≤ length out.old }
-    ensures { (out.new ≡ sets out.old at (octets_of r)) × (length (octets_of r) ≡ record_octets) }
-{
-    let s = r.state;
-    out[at] = s.number();
-    let call = r.call;
-    put_call(out, at + 1, call);
-    let connection = r.connection.0;
-    let count = r.count.0;
-    out[at + CONNECTION_OFFSET] = (connection / 256) as u8;
-    out[at + CONNECTION_OFFSET + 1] = (connection % 256) as u8;
-    out[at + COUNT_OFFSET] = (count / 256) as u8;
-    out[at + COUNT_OFFSET + 1] = (count % 256) as u8;
+    let at = i * PLACE_OCTETS;
+    image[at] = u8::from(r.state);
+    put_run(image, at + 1, r.call);
+    put_run(image, at + CONNECTION_OFFSET, r.connection.0.to_be_bytes());
+    put_run(image, at + COUNT_OFFSET, r.count.0.to_be_bytes());
 }

@@ -8,16 +8,16 @@ ghost use Rattle.image.specs.Image.{image_octets, record_in, table_from, closed_
 ghost use Rattle.image.specs.Quick.{calls_in};
 
 use image::ranks::Calls;
-use image::{PLACE_OCTETS, RECORD_OCTETS};
+use image::{IMAGE_OCTETS, PLACE_OCTETS, RECORD_OCTETS};
 use table::{Side, State};
 
-// Of two numbers, one for each side, that of a side.
-pub(crate) fn of_side(a: Side, positions: u8, lines: u8) -> u8
-    ensures { result ≡ of_side a positions lines }
+// How many of the calls are on a side.
+pub(crate) fn of_side(a: Side, calls: Calls) -> u8
+    ensures { result ≡ of_side a calls.positions calls.lines }
 {
     match a {
-        Side::Position => positions,
-        Side::Line => lines,
+        Side::Position => calls.positions,
+        Side::Line => calls.lines,
     }
 }
 
@@ -32,26 +32,21 @@ pub(crate) fn move_up(k: u8, rank: u8) -> u8
 fn held(s: u8) -> u8
     ensures { result ≡ (if not (s == 0) then 1 else 0) }
 {
-    if s == 0 { 0 } else { 1 }
+    u8::from(s != 0)
 }
 
 // How many calls a side has. Without a test of the side in the loop the compiler takes many places at a time.
-fn calls_of(image: &[u8], a: Side) -> u8
-    requires { length image.now ≡ image_octets }
+fn calls_of(image: &[u8; IMAGE_OCTETS], a: Side) -> u8
     ensures { result ≡ calls_on (table_from image.now) a }
 {
     let mut calls: u8 = 0;
-    let mut i = a.first();
-    let end = a.end();
-    while i < end {
+    for i in a.first()..a.end() {
         calls += held(image[i * PLACE_OCTETS]);
-        i += 1;
     }
     calls
 }
 
-pub(crate) fn calls_in(image: &[u8]) -> Calls
-    requires { length image.now ≡ image_octets }
+pub(crate) fn calls_in(image: &[u8; IMAGE_OCTETS]) -> Calls
     ensures { result ≡ calls_in image.now }
 {
     Calls {
@@ -61,22 +56,18 @@ pub(crate) fn calls_in(image: &[u8]) -> Calls
 }
 
 // Lowers the ranks of a side above k. What looks for ranks looks at no other place.
-fn close_up(image: &mut [u8], a: Side, k: u8)
-    requires { length image.old ≡ image_octets }
+fn close_up(image: &mut [u8; IMAGE_OCTETS], a: Side, k: u8)
     ensures { image.new ≡ closed_up_in a k place_count image.old }
 {
-    let mut j = a.first();
-    let end = a.end();
-    while j < end {
+    for j in a.first()..a.end() {
         let at = j * PLACE_OCTETS + RECORD_OCTETS;
         image[at] = move_up(k, image[at]);
-        j += 1;
     }
 }
 
 // Gives an image the ranks that it has when the record at an index comes into another state.
-pub(crate) fn rerank(image: &mut [u8], i: usize, after: State)
-    requires { (i < place_count) × (length image.old ≡ image_octets) }
+pub(crate) fn rerank(image: &mut [u8; IMAGE_OCTETS], i: usize, after: State)
+    requires { i < place_count }
     ensures { image.new ≡ reranked_in image.old i (change_of (is_free (record_in image.old i).state) (is_free after)) }
 {
     let at = i * PLACE_OCTETS;
@@ -85,11 +76,9 @@ pub(crate) fn rerank(image: &mut [u8], i: usize, after: State)
         if !after.is_free() {
             image[at + RECORD_OCTETS] = calls_of(image, a) + 1;
         }
-    } else {
-        if after.is_free() {
-            let k = image[at + RECORD_OCTETS];
-            close_up(image, a, k);
-            image[at + RECORD_OCTETS] = 0;
-        }
+    } else if after.is_free() {
+        let k = image[at + RECORD_OCTETS];
+        close_up(image, a, k);
+        image[at + RECORD_OCTETS] = 0;
     }
 }

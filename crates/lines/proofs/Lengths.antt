@@ -10,7 +10,7 @@ use Rattle.events.specs.declared.Answer.{Answer}
 use Rattle.events.specs.declared.message.Sent.{Sent}
 use Rattle.fields.specs.Numbers.{decimal}
 use Rattle.table.specs.Places.{no_call}
-use Rattle.fields.specs.Line.{text, line_from, line_of}
+use Rattle.fields.specs.Line.{line_from, line_of}
 use Rattle.fields.proofs.Texts.{any_call}
 use Rattle.lines.specs.EventLine.{event_fields, event_values, event_line}
 use Rattle.lines.specs.AnswerLine.{answer_fields, answer_values, answer_line}
@@ -34,7 +34,7 @@ size n = length (decimal n)
 pub length_event : (e : Event) → length e.call ≡ 16
     → length (event_line e)
     ≡ (size e.kind + size e.place.0 + size e.choice) + (size e.connection.0 + size e.invoke.0 + size e.timer) + 38
-unfolding line_from text
+unfolding line_from
 length_event e h = event_any_call e h ∙ simp length-append (omega arith)
 
 -- the four fields of a message, with the tabs between them
@@ -44,5 +44,5 @@ sent_size x = size x.message + size x.connection.0 + size x.invoke.0 + size x.er
 pub length_answer : (a : Answer) → length a.call ≡ 16
     → length (answer_line a)
     ≡ (size a.number + size a.place.0 + size a.state) + (size a.started + size a.stopped) + (sent_size a.first + sent_size a.second) + 40
-unfolding line_from text
+unfolding line_from
 length_answer a h = answer_any_call a h ∙ simp length-append (omega arith)

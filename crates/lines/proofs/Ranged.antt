@@ -1,16 +1,17 @@
--- What comes of reading any line, refused ones too: its number is at most 24, and its event is within the ranges of its fields.
+-- What comes of reading any line: its number is at most 24, and its event, of a refused one too, is within the ranges of its fields.
 use mathlib.Core.List.{List}
 use Prim.Native.Nat.{ℕ, ◌≤◌}
-use Rattle.lines.specs.declared.ReadEvent.{ReadEvent}
-use Rattle.lines.specs.EventLine.{reading, read_line}
+use Rattle.std.specs.Prelude.{IfOk, Result}
+use Rattle.events.specs.declared.Event.{Event}
+use Rattle.lines.specs.declared.BadLine.{BadLine}
+use Rattle.lines.specs.EventLine.{number_in, read_line}
 use Rattle.lines.specs.Round.{EventInRange}
-use Rattle.lines.proofs.Faults.{fault_most}
-use Rattle.lines.proofs.Round.{event_in_range}
+use Rattle.lines.proofs.Faults.{number_most}
+use Rattle.lines.proofs.Round.{event_read_range}
 
-pub record Ranged (r : ReadEvent) : Type 0 where
-  pub number : r.number ≤ 24
-  pub event : EventInRange r.event
+pub record Ranged (r : Result Event BadLine) : Type 0 where
+  pub number : number_in r ≤ 24
+  pub event : IfOk r EventInRange
 
 pub read_ranged : (line : List ℕ) → Ranged (read_line line)
-unfolding read_line
-read_ranged line = record { number = fault_most (reading line).fault; event = event_in_range line }
+read_ranged line = record { number = number_most (read_line line); event = event_read_range line }

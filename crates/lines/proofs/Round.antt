@@ -10,25 +10,20 @@ use Rattle.laws.proofs.Runs.{length_snoc, zeros_after}
 use Rattle.events.specs.declared.Event.{Event}
 use Rattle.events.specs.declared.Answer.{Answer}
 use Rattle.events.specs.declared.message.Sent.{Sent}
-use Rattle.fields.specs.declared.Fault.TheVariants.{NoFault}
+use Rattle.std.specs.Prelude.{IfOk, IsOk, Some, Result, Ok, Err}
+use Rattle.fields.specs.declared.Fault.{Fault}
 use Rattle.fields.specs.declared.Fields.{Fields}
-use Rattle.fields.specs.Line.{says, is_none, read_fields, text, line_from, line_of}
-use Rattle.fields.specs.Round.{Description, Within, Contents}
+use Rattle.fields.specs.Line.{read_fields, line_from, line_of}
+use Rattle.fields.specs.Round.{Description, Within, Contents, Ranged}
 use Rattle.fields.proofs.Decimal.{length_three, length_five}
-use Rattle.fields.proofs.Walk as walk
-use Rattle.fields.proofs.Ranged.{Ranged, read_ranged}
+use Rattle.fields.proofs.Ranged.{no_fields, read_ranged}
 use Rattle.fields.proofs.Round as round
-use Rattle.lines.specs.declared.ReadEvent.{ReadEvent}
-use Rattle.lines.specs.EventLine.{event_fields, longest_event, event_values, event_in, reading, fault_number, read_line, event_line}
-use Rattle.lines.specs.AnswerLine.{answer_fields, longest_answer, answer_values, sent_in, answer_in, reading_answer, read_answer, answer_text, answer_line}
+use Rattle.lines.specs.declared.BadLine.{BadLine}
+use Rattle.lines.specs.EventLine.{event_fields, longest_event, event_values, event_in, reading, taken, read_line, event_or_zeros, event_said, event_line}
+use Rattle.lines.specs.AnswerLine.{answer_fields, longest_answer, answer_values, sent_in, answer_in, reading_answer, taken_answer, read_answer, answer_or_zeros, answer_text, answer_line}
 use Rattle.lines.specs.Round as statements
 use Rattle.lines.specs.Round.{EventInRange, SentInRange, AnswerInRange}
-use Rattle.lines.proofs.Faults.{no_fault}
 use Rattle.lines.proofs.Lengths.{sent_size, length_event, length_answer}
-
--- what was read, where there is no fault
-says_it : (r : Fields) → r.fault ≡ NoFault → r ≡ says r.values r.call
-says_it r none = λ i. record { fault = none i; values = r.values; call = r.call }
 
 -- ---- event lines
 
@@ -59,21 +54,21 @@ event_line_short e h =
 pub event_read_back : statements.EventReadsBack
 unfolding read_line reading event_line
 event_read_back e h =
-    let same = round.read_written longest_event event_fields (event_values e) e.call event_description (event_contents e h) (event_line_short e h) in
-    λ i. record { number = fault_number (same i).fault; event = event_in (same i) }
+    ap taken (round.read_written longest_event event_fields (event_values e) e.call event_description (event_contents e h) (event_line_short e h))
 
 event_in_place : (r : Fields) → event_line (event_in r) ≡ line_of event_fields r.values r.call
-unfolding event_line line_from text
+unfolding event_line line_from
 event_in_place r = refl
 
 pub event_written_back : statements.EventWritesBack
 unfolding read_line reading
-event_written_back s e q =
-    let r = reading s in
-    let none = no_fault r.fault (ap (λ (x : ReadEvent). x.number) q) in
-    ap (λ (x : ReadEvent). event_line x.event) (sym q)
-    ∙ event_in_place r
-    ∙ round.written_read longest_event event_fields s r.values r.call event_description (says_it r none)
+event_written_back s e q = by (read_fields longest_event event_fields s) refl q
+  where
+    by : (r : Result Fields Fault) → read_fields longest_event event_fields s ≡ r → taken r ≡ Ok e → event_line e ≡ s
+    by (Ok f) is q =
+        let same : event_in f ≡ e = cc in
+        ap event_line (sym same) ∙ event_in_place f ∙ round.written_read longest_event event_fields s f.values f.call event_description is
+    by (Err f) is q = cc
 
 event_of_lem : (r : Fields) → Ranged event_fields r → EventInRange (event_in r)
 event_of_lem r h = record {
@@ -86,9 +81,21 @@ event_of_lem r h = record {
   timer = h.value 6;
 }
 
-pub event_in_range : statements.EventReadInRange
+event_taken : (r : Result Fields Fault) → IfOk r (Ranged event_fields) → IfOk (taken r) EventInRange
+event_taken (Ok f) h = event_of_lem f h
+event_taken (Err f) h = tt
+
+pub event_read_range : (s : List ℕ) → IfOk (read_line s) EventInRange
 unfolding read_line reading
-event_in_range s = event_of_lem (reading s) (read_ranged longest_event event_fields s)
+event_read_range s = event_taken (reading s) (read_ranged longest_event event_fields s)
+
+event_or_zeros_range : (r : Result Event BadLine) → IfOk r EventInRange → EventInRange (event_or_zeros r)
+event_or_zeros_range (Ok e) h = h
+event_or_zeros_range (Err b) h = event_of_lem _ (no_fields event_fields)
+
+pub event_in_range : statements.EventReadInRange
+unfolding event_said
+event_in_range s = event_or_zeros_range (read_line s) (event_read_range s)
 
 -- ---- answer lines
 
@@ -140,19 +147,22 @@ answer_text_short a h =
 pub answer_read_back : statements.AnswerReadsBack
 unfolding read_answer
 answer_read_back a h =
-    let same = round.read_written longest_answer answer_fields (answer_values a) a.call answer_description (answer_contents a h) (answer_text_short a h) in
-    λ i. record { good = is_none (same i).fault; answer = answer_in (same i) }
+    ap taken_answer (round.read_written longest_answer answer_fields (answer_values a) a.call answer_description (answer_contents a h) (answer_text_short a h))
 
 text_in_place : (r : Fields) → answer_text (answer_in r) ≡ line_of answer_fields r.values r.call
-unfolding line_from text
+unfolding line_from
 text_in_place r = refl
 
 pub answer_written_back : statements.AnswerWritesBack
 unfolding read_answer answer_line
-answer_written_back s h =
-    let r = reading_answer s in
-    let none = walk.no_fault r.fault h in
-    ap (λ (l : List ℕ). l ++ (10 ∷ [])) (text_in_place r ∙ round.written_read longest_answer answer_fields s r.values r.call answer_description (says_it r none))
+answer_written_back s a q = by (reading_answer s) refl q
+  where
+    by : (r : Result Fields Fault) → reading_answer s ≡ r → taken_answer r ≡ Some a → answer_line a ≡ s ++ (10 ∷ [])
+    by (Ok f) is q =
+        let same : answer_in f ≡ a = cc in
+        ap answer_line (sym same)
+        ∙ ap (λ (l : List ℕ). l ++ (10 ∷ [])) (text_in_place f ∙ round.written_read longest_answer answer_fields s f.values f.call answer_description is)
+    by (Err f) is q = cc
 
 sent_of : (v : ℕ → ℕ) (i : ℕ) → v i ≤ 255 → v (i + 1) ≤ 65535 → v (i + 2) ≤ 65535 → v (i + 3) ≤ 255 → SentInRange (sent_in v i)
 sent_of v i m c n e = record { message = m; connection = c; invoke = n; error = e }
@@ -173,10 +183,17 @@ answer_of r h =
 
 pub answer_in_range : statements.AnswerReadInRange
 unfolding read_answer
-answer_in_range s = answer_of (reading_answer s) (read_ranged longest_answer answer_fields s)
+answer_in_range s = by (reading_answer s) (read_ranged longest_answer answer_fields s)
+  where
+    by : (r : Result Fields Fault) → IfOk r (Ranged answer_fields) → AnswerInRange (answer_or_zeros (taken_answer r))
+    by (Ok f) h = answer_of f h
+    by (Err f) h = answer_of _ (no_fields answer_fields)
 
 pub bound_refuses_none : statements.BoundRefusesNone
-bound_refuses_none longest s none =
-    let r = read_fields longest answer_fields s in
-    let same = text_in_place r ∙ round.written_read longest answer_fields s r.values r.call answer_description (says_it r none) in
-    omega (arith, ap length same, answer_text_short (answer_in r) (answer_of r (read_ranged longest answer_fields s)))
+bound_refuses_none longest s reads = by (read_fields longest answer_fields s) refl reads (read_ranged longest answer_fields s)
+  where
+    by : (r : Result Fields Fault) → read_fields longest answer_fields s ≡ r → IsOk r → IfOk r (Ranged answer_fields) → length s ≤ longest_answer
+    by (Ok f) is reads h =
+        let same = text_in_place f ∙ round.written_read longest answer_fields s f.values f.call answer_description is in
+        omega (arith, ap length same, answer_text_short (answer_in f) (answer_of f h))
+    by (Err f) is reads h = cc

@@ -1,24 +1,27 @@
 -- The answer line (document 01, "Answer line: number, call, place, state after, message, connection, invoke, error, started, stopped.";
 -- document 02, Q-1: "The answer line gets four fields at its end: message, connection, invoke, error of the second, zeros if there is none."):
 -- its description, an answer in its fields, the answer that a line says, and how an answer is written.
-use Rattle.std.specs.Prelude.{List, [], ◌∷◌, ◌++◌, ℕ, ◌+◌, get_or}
+use Rattle.std.specs.Prelude.{List, [], ◌∷◌, ◌++◌, ℕ, ◌+◌, get_or, Option, Some, None, Result, Ok, Err}
 use Rattle.events.specs.declared.Answer.{Answer}
 use Rattle.events.specs.declared.message.Sent.{Sent}
+use Rattle.table.specs.Places.{no_call}
+use Rattle.fields.specs.declared.Kind.{Kind}
+use Rattle.fields.specs.declared.Kind.TheVariants.{Call, Number}
+use Rattle.fields.specs.declared.Fault.{Fault}
 use Rattle.fields.specs.declared.Fields.{Fields}
-use Rattle.fields.specs.Line.{call_field, read_fields, is_none, line_of}
-use Rattle.lines.specs.declared.ReadAnswer.{ReadAnswer}
+use Rattle.fields.specs.Line.{no_values, read_fields, line_of}
 
 -- ---- the description
 
 -- The ranges are those of document 02, Q-11: "connections and invokes to 65,535, other numbers to 255".
 
 -- of a message: message, connection, invoke, error
-abbrev pub sent_fields : List ℕ
-sent_fields = 255 ∷ 65535 ∷ 65535 ∷ 255 ∷ []
+abbrev pub sent_fields : List Kind
+sent_fields = Number 255 ∷ Number 65535 ∷ Number 65535 ∷ Number 255 ∷ []
 
 -- number, call, place, state after; the message; started, stopped; the second message
-abbrev pub answer_fields : List ℕ
-answer_fields = 255 ∷ call_field ∷ 255 ∷ 255 ∷ (sent_fields ++ (255 ∷ 255 ∷ sent_fields))
+abbrev pub answer_fields : List Kind
+answer_fields = Number 255 ∷ Call ∷ Number 255 ∷ Number 255 ∷ (sent_fields ++ (Number 255 ∷ Number 255 ∷ sent_fields))
 
 -- No line of fourteen such fields is longer, so that this bound refuses none (`bound_refuses_none`).
 abbrev pub longest_answer : ℕ
@@ -53,14 +56,29 @@ abbrev pub answer_values : Answer → List ℕ
 answer_values a =
     a.number ∷ 0 ∷ a.place.0 ∷ a.state ∷ (sent_values a.first ++ (a.started ∷ a.stopped ∷ sent_values a.second))
 
+abbrev pub fields_of_answer : Answer → Fields
+fields_of_answer a = record { values = answer_values a; call = a.call }
+
 -- ---- the answer that a line says, the line coming without its line feed
 
-abbrev pub reading_answer : List ℕ → Fields
+abbrev pub reading_answer : List ℕ → Result Fields Fault
 reading_answer s = read_fields longest_answer answer_fields s
 
--- a line that is not the fourteen fields has the answer of all zeros
-unfoldable pub read_answer : List ℕ → ReadAnswer
-read_answer s = record { good = is_none (reading_answer s).fault; answer = answer_in (reading_answer s) }
+abbrev pub taken_answer : Result Fields Fault → Option Answer
+taken_answer (Ok f) = Some (answer_in f)
+taken_answer (Err f) = None
+
+-- a line that is not the fourteen fields has none
+unfoldable pub read_answer : List ℕ → Option Answer
+read_answer s = taken_answer (reading_answer s)
+
+abbrev pub no_answer : Answer
+no_answer = answer_in (record { values = no_values; call = no_call })
+
+-- the answer, or that of all zeros
+abbrev pub answer_or_zeros : Option Answer → Answer
+answer_or_zeros (Some a) = a
+answer_or_zeros None = no_answer
 
 -- ---- how an answer is written
 

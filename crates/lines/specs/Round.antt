@@ -1,15 +1,14 @@
 -- The round trips of event lines and of answer lines: what is written reads back, of any event and answer within the ranges of their
 -- fields, and any line that reads is written back octet for octet. With them: what is read is within those ranges, and how long such lines can
 -- be. Each statement is proved in `proofs/Round.antt` under the name that stands beside it.
-use Rattle.std.specs.Prelude.{◌≡◌, true, List, [], ◌∷◌, ◌++◌, ℕ, ◌≤◌, length}
+use Rattle.std.specs.Prelude.{◌≡◌, List, [], ◌∷◌, ◌++◌, ℕ, ◌≤◌, length, IsOk, Some}
 use Rattle.events.specs.declared.Event.{Event}
 use Rattle.events.specs.declared.Answer.{Answer}
 use Rattle.events.specs.declared.message.Sent.{Sent}
-use Rattle.fields.specs.declared.Fault.TheVariants.{NoFault}
 use Rattle.fields.specs.Line.{read_fields}
 use Rattle.fields.specs.Round.{CallInRange}
-use Rattle.lines.specs.EventLine.{longest_event, read_line, read, event_line}
-use Rattle.lines.specs.AnswerLine.{answer_fields, longest_answer, read_answer, answer_text, answer_line}
+use Rattle.lines.specs.EventLine.{longest_event, read_line, read, event_said, event_line}
+use Rattle.lines.specs.AnswerLine.{answer_fields, longest_answer, read_answer, answer_or_zeros, answer_text, answer_line}
 
 -- ---- within the ranges of the fields: what the types say, and of an answer that its place is at most 255, as every place of the table is
 
@@ -50,7 +49,7 @@ EventWritesBack = (s : List ℕ) (e : Event) → read_line s ≡ read e → even
 
 -- `event_in_range`: of any line, refused ones too
 abbrev pub EventReadInRange : Type 0
-EventReadInRange = (s : List ℕ) → EventInRange (read_line s).event
+EventReadInRange = (s : List ℕ) → EventInRange (event_said s)
 
 -- `event_line_short`
 abbrev pub EventLineShort : Type 0
@@ -60,16 +59,16 @@ EventLineShort = (e : Event) → EventInRange e → length (event_line e) ≤ lo
 
 -- `answer_read_back`
 abbrev pub AnswerReadsBack : Type 0
-AnswerReadsBack = (a : Answer) → AnswerInRange a → read_answer (answer_text a) ≡ record { good = true; answer = a }
+AnswerReadsBack = (a : Answer) → AnswerInRange a → read_answer (answer_text a) ≡ Some a
 
 -- `answer_written_back`
 abbrev pub AnswerWritesBack : Type 0
-AnswerWritesBack = (s : List ℕ) → (read_answer s).good ≡ true → answer_line (read_answer s).answer ≡ s ++ (10 ∷ [])
+AnswerWritesBack = (s : List ℕ) (a : Answer) → read_answer s ≡ Some a → answer_line a ≡ s ++ (10 ∷ [])
 
 -- `answer_in_range`: of any line, refused ones too
 abbrev pub AnswerReadInRange : Type 0
-AnswerReadInRange = (s : List ℕ) → AnswerInRange (read_answer s).answer
+AnswerReadInRange = (s : List ℕ) → AnswerInRange (answer_or_zeros (read_answer s))
 
 -- `bound_refuses_none`: a line of the fourteen fields, read with whatever bound, has no more octets than the bound of `read_answer`
 abbrev pub BoundRefusesNone : Type 0
-BoundRefusesNone = (longest : ℕ) (s : List ℕ) → (read_fields longest answer_fields s).fault ≡ NoFault → length s ≤ longest_answer
+BoundRefusesNone = (longest : ℕ) (s : List ℕ) → IsOk (read_fields longest answer_fields s) → length s ≤ longest_answer

@@ -3,224 +3,147 @@
 // 21 to 24.
 #![tactic(auto)]
 
-ghost use Rattle.std.specs.Prelude.{◌≡◌, cond, ltb, length};
-ghost use Rattle.std.proofs.lemmas.List.Edits.{sets};
-ghost use Rattle.lines.specs.EventLine.{reading, fault_number, read_line, bad_field, event_values, event_line};
-ghost use Rattle.lines.specs.AnswerLine.{read_answer, answer_values, answer_line};
+mod layout;
 
-use events::message::Sent;
+ghost use Rattle.std.specs.Prelude.{◌≡◌, length};
+ghost use Rattle.fields.specs.Line.{line_of, Writes};
+ghost use Rattle.lines.specs.Layout.{read_by};
+ghost use Rattle.lines.specs.EventLine.{bad_line, refusal_number, read_line, event_said, bad_field, event_line};
+ghost use Rattle.lines.specs.AnswerLine.{read_answer, answer_line};
+
 use events::{Answer, Event};
-use fields::{Fault, Fields, Values};
-use table::{Connection, Invoke, Place};
-
-// An event line: kind, call, place, choice, connection, invoke, timer.
-const EVENT_FIELDS: [u16; 7] = [255, fields::CALL, 65535, 255, 65535, 65535, 255];
-
-// The most octets that an event line may have, without its line feed.
-const LONGEST_EVENT: u8 = 62;
-
-// An answer line: number, call, place, state; message, connection, invoke, error; started, stopped; and a second message.
-const ANSWER_FIELDS: [u16; 14] = [
-    255,
-    fields::CALL,
-    255,
-    255,
-    255,
-    65535,
-    65535,
-    255,
-    255,
-    255,
-    255,
-    65535,
-    65535,
-    255,
-];
-
-// The most octets that these fields can make.
-const LONGEST_ANSWER: u8 = 92;
+use fields::Fault;
+use layout::Layout;
 
 // The octets that hold the line of every answer the table gives, its line feed included.
 pub const ANSWER_ROOM: usize = 77;
 
-// What reading an event line gives: number 0 and the event, or the refusal and the event of all zeros.
-#[derive(Clone, Copy)]
-pub struct ReadEvent {
-    pub number: u8,
-    pub event: Event,
+// Why an event line is refused: it is too long, it has not the seven fields, or its first bad field is a number, or the call.
+#[derive(Clone, Copy, PartialEq, Eq, Debug)]
+pub enum BadLine {
+    TooLong = 21,
+    WrongCount = 22,
+    BadNumber = 23,
+    BadCall = 24,
 }
 
-// What reading an answer line gives: the answer, or that the line is not the fourteen fields, and the answer of all zeros.
-#[derive(Clone, Copy)]
-pub struct ReadAnswer {
-    pub good: bool,
-    pub answer: Answer,
-}
+// Of the seven fields the second is the call.
+impl From<Fault> for BadLine {
+    ghost from_gives = { λ f b. b ≡ bad_line f };
 
-// The paper's refusal: of the seven fields the second is the call, and the others are numbers.
-fn fault_number(fault: Fault) -> u8
-    ensures { result ≡ fault_number fault }
-{
-    match fault {
-        Fault::NoFault => 0,
-        Fault::TooLong => 21,
-        Fault::WrongCount => 22,
-        Fault::BadField(field) => if field == 2 { 24 } else { 23 },
+    fn from(fault: Fault) -> BadLine {
+        match fault {
+            Fault::TooLong => BadLine::TooLong,
+            Fault::WrongCount => BadLine::WrongCount,
+            Fault::BadField(2) => BadLine::BadCall,
+            Fault::BadField(_) => BadLine::BadNumber,
+        }
     }
 }
 
-// What an event line says, from which both its event and its first bad field are taken.
-fn reading_of(line: &[u8]) -> Fields
-    ensures { result ≡ reading line.now }
-{
-    fields::read_fields(line, LONGEST_EVENT, &EVENT_FIELDS)
+// The paper's numbers.
+impl From<BadLine> for u8 {
+    ghost from_gives = { λ b n. n ≡ refusal_number b };
+
+    fn from(bad: BadLine) -> u8 {
+        bad as u8
+    }
 }
 
-// The event that a line says, or its refusal. The line comes without its line feed.
-pub fn read_event(line: &[u8]) -> ReadEvent
+// What a line says of what has this layout. The line comes without its line feed.
+fn read<L: Layout>(line: &[u8]) -> Result<L, Fault>
+    ensures { result ≡ read_by L.LONGEST L.kinds L.taken line.now }
+{
+    Ok(L::of_fields(fields::read_fields(line, L::LONGEST, L::kinds())?))
+}
+
+// How many octets the line of what has this layout has.
+#[tactic(auto, using(fields::proofs::Texts::any_call))]
+fn length<L: Layout>(x: L) -> usize
+    ensures { result ≡ length (line_of L.kinds (L.laid x).values (L.laid x).call) }
+{
+    fields::fields_length(L::kinds(), x.to_fields().values)
+}
+
+// Writes the line of what has this layout.
+fn write<L: Layout>(x: L, out: &mut [u8]) -> usize
+    ensures { Writes out.old (line_of L.kinds (L.laid x).values (L.laid x).call) result out.new }
+{
+    fields::write_fields(out, L::kinds(), x.to_fields())
+}
+
+// The event that a line says, or why it is refused. The line comes without its line feed.
+#[tactic(auto, unfolding(crate::specs::EventLine::read_line, crate::specs::EventLine::reading))]
+pub fn read_event(line: &[u8]) -> Result<Event, BadLine>
     ensures { result ≡ read_line line.now }
 {
-    let r = reading_of(line);
-    let fault = r.fault;
-    let values = r.values;
-    let call = r.call;
-    ReadEvent {
-        number: fault_number(fault),
-        event: Event {
-            kind: values[0] as u8,
-            call,
-            place: Place(values[2]),
-            choice: values[3] as u8,
-            connection: Connection(values[4]),
-            invoke: Invoke(values[5]),
-            timer: values[6] as u8,
-        },
-    }
+    Ok(read::<Event>(line)?)
+}
+
+// The event that a line says; a refused line has that of all zeros.
+pub fn event_said(line: &[u8]) -> Event
+    ensures { result ≡ event_said line.now }
+{
+    read_event(line).unwrap_or_default()
 }
 
 // The first bad field of a line, 1 to 7, or 0 where no single field is to blame: the line reads, or 21 or 22 refuses it.
+#[tactic(auto, unfolding(crate::specs::EventLine::bad_field, crate::specs::EventLine::reading))]
 pub fn bad_field(line: &[u8]) -> u8
     ensures { result ≡ bad_field line.now }
 {
-    let r = reading_of(line);
-    let fault = r.fault;
-    fault.field()
-}
-
-// The answer that a line says. The line comes without its line feed.
-pub fn read_answer(line: &[u8]) -> ReadAnswer
-    ensures { result ≡ read_answer line.now }
-{
-    let r = fields::read_fields(line, LONGEST_ANSWER, &ANSWER_FIELDS);
-    let fault = r.fault;
-    let values = r.values;
-    let call = r.call;
-    ReadAnswer {
-        good: fault.is_none(),
-        answer: Answer {
-            number: values[0] as u8,
-            call,
-            place: Place(values[2]),
-            state: values[3] as u8,
-            first: Sent {
-                message: values[4] as u8,
-                connection: Connection(values[5]),
-                invoke: Invoke(values[6]),
-                error: values[7] as u8,
-            },
-            started: values[8] as u8,
-            stopped: values[9] as u8,
-            second: Sent {
-                message: values[10] as u8,
-                connection: Connection(values[11]),
-                invoke: Invoke(values[12]),
-                error: values[13] as u8,
-            },
-        },
+    match read::<Event>(line) {
+        Ok(_) => 0,
+        Err(fault) => fault.field(),
     }
 }
 
-// The values of an event's fields, each at its field's index.
-fn event_values(e: Event) -> Values
-    ensures { result ≡ event_values e }
+// The answer that a line says, or none where it is not the fourteen fields. The line comes without its line feed.
+#[tactic(auto, unfolding(crate::specs::AnswerLine::read_answer))]
+pub fn read_answer(line: &[u8]) -> Option<Answer>
+    ensures { result ≡ read_answer line.now }
 {
-    [
-        e.kind as u16,
-        0,
-        e.place.0,
-        e.choice as u16,
-        e.connection.0,
-        e.invoke.0,
-        e.timer as u16,
-        0,
-        0,
-        0,
-        0,
-        0,
-        0,
-        0,
-    ]
-}
-
-// The values of an answer's fields, each at its field's index.
-fn answer_values(a: Answer) -> Values
-    ensures { result ≡ answer_values a }
-{
-    [
-        a.number as u16,
-        0,
-        a.place.0,
-        a.state as u16,
-        a.first.message as u16,
-        a.first.connection.0,
-        a.first.invoke.0,
-        a.first.error as u16,
-        a.started as u16,
-        a.stopped as u16,
-        a.second.message as u16,
-        a.second.connection.0,
-        a.second.invoke.0,
-        a.second.error as u16,
-    ]
+    read(line).ok()
 }
 
 // How many octets the line of an event has.
+#[tactic(auto, unfolding(crate::specs::EventLine::event_line))]
 pub fn event_length(e: Event) -> usize
     ensures { result ≡ length (event_line e) }
 {
-    fields::fields_length(&EVENT_FIELDS, event_values(e))
+    length(e)
 }
 
 // Writes the line of an event, without a line feed, at the front of the buffer, and gives its length; in a buffer that is too short
-// it writes nothing, and gives 0. Octets beyond the line stay.
+// it writes nothing, and gives 0 (`fields::write_fields` says why no None). Octets beyond the line stay.
+#[tactic(auto, unfolding(crate::specs::EventLine::event_line))]
 pub fn write_event(e: Event, out: &mut [u8]) -> usize
-    ensures { (result ≡ cond (ltb (length out.old) (length (event_line e))) 0 (length (event_line e))) × (out.new ≡ cond (ltb (length out.old) (length (event_line e))) out.old (sets out.old 0 (event_line e))) }
+    ensures { Writes out.old (event_line e) result out.new }
 {
-    let call = e.call;
-    fields::write_fields(out, &EVENT_FIELDS, event_values(e), call)
+    write(e, out)
 }
 
 // How many octets the line of an answer has, its line feed included.
+#[tactic(auto, using(laws::proofs::Runs::length_snoc), unfolding(crate::specs::AnswerLine::answer_line))]
 pub fn answer_length(a: Answer) -> usize
     ensures { result ≡ length (answer_line a) }
 {
-    fields::fields_length(&ANSWER_FIELDS, answer_values(a)) + 1
+    length(a) + 1
 }
 
 // Writes the line of an answer, with its line feed, at the front of the buffer, and gives its length; in a buffer that is too short it
-// writes nothing, and gives 0. Octets beyond the line stay.
+// writes nothing, and gives 0, as `park_step` gives it to C. Octets beyond the line stay.
 pub fn write_answer(a: Answer, out: &mut [u8]) -> usize
-    ensures { (result ≡ cond (ltb (length out.old) (length (answer_line a))) 0 (length (answer_line a))) × (out.new ≡ cond (ltb (length out.old) (length (answer_line a))) out.old (sets out.old 0 (answer_line a))) }
+    ensures { Writes out.old (answer_line a) result out.new }
 {
     if out.len() == 0 {
         return 0;
     }
     let room = out.len() - 1;
-    let call = a.call;
-    let n = fields::write_fields(&mut out[..room], &ANSWER_FIELDS, answer_values(a), call);
+    let n = write(a, &mut out[..room]);
     if n == 0 {
         return 0;
     }
-    out[n] = 10;
+    out[n] = b'\n';
     n + 1
 }

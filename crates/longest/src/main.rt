@@ -6,15 +6,19 @@
 use events::Answer;
 use std::io;
 
-fn put_number(rt: &impl Print, n: usize) -> io::Result<()> {
-    print!(rt; "{n}\t")
-}
+const LINES: [&[u8]; 5] = [
+    b"1\t00000000000000000000000000000001\t17\t0\t0\t0\t0",
+    b"4\t00000000000000000000000000000001\t0\t0\t65535\t0\t0",
+    b"6\t00000000000000000000000000000001\t0\t0\t0\t1\t0",
+    b"4\t00000000000000000000000000000001\t0\t0\t65535\t0\t0",
+    b"10\t00000000000000000000000000000001\t0\t0\t0\t0\t3",
+];
 
-// Writes the line of an answer into the room that was set aside for it.
-fn put_answer(rt: &impl Print, a: Answer, room: &mut [u8]) -> io::Result<()> {
-    put_number(rt, room.len())?;
+// Prints an answer, with its line written into the room that was set aside for it.
+fn print_answer(rt: &impl Print, a: Answer, room: &mut [u8]) -> io::Result<()> {
+    let offered = room.len();
     let written = lines::write_answer(a, room);
-    put_number(rt, written)?;
+    print!(rt; "{offered}\t{written}\t")?;
     rt.write_all(room)
 }
 
@@ -23,34 +27,13 @@ fn take(rt: &impl Print, image: &mut [u8], line: &[u8]) -> io::Result<()> {
     let a = lent::answer_line(image, line);
     let offered = lines::answer_length(a);
     let mut room = [0u8; lines::ANSWER_ROOM];
-    put_answer(rt, a, &mut room[..offered])
+    print_answer(rt, a, &mut room[..offered])
 }
 
 fn main(rt: HostRuntime) -> io::Result<()> {
     let mut image = [0u8; image::IMAGE_OCTETS];
-    take(
-        &rt,
-        &mut image,
-        b"1\t00000000000000000000000000000001\t17\t0\t0\t0\t0",
-    )?;
-    take(
-        &rt,
-        &mut image,
-        b"4\t00000000000000000000000000000001\t0\t0\t65535\t0\t0",
-    )?;
-    take(
-        &rt,
-        &mut image,
-        b"6\t00000000000000000000000000000001\t0\t0\t0\t1\t0",
-    )?;
-    take(
-        &rt,
-        &mut image,
-        b"4\t00000000000000000000000000000001\t0\t0\t65535\t0\t0",
-    )?;
-    take(
-        &rt,
-        &mut image,
-        b"10\t00000000000000000000000000000001\t0\t0\t0\t0\t3",
-    )
+    for line in LINES {
+        take(&rt, &mut image, line)?;
+    }
+    Ok(())
 }

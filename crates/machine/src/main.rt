@@ -3,11 +3,8 @@
 // call, at the place (none in state 0), and of an event that names that call.
 #![tactic(auto)]
 
-ghost use Rattle.std.specs.Prelude.{◌<◌};
-ghost use Rattle.table.specs.Places.{place_count};
-
 use events::Event;
-use std::io;
+use std::{fmt, io};
 use table::{Call, Connection, Invoke, Place, Record, Side, State, Table};
 
 const CALL: Call = [1; Table::CALL_OCTETS];
@@ -16,24 +13,129 @@ const PICKER: u16 = 900;
 
 const COUNT: u16 = 7;
 
-// The timer of an event whose kind names none.
-const NO_TIMER: u8 = 0;
-
-// Whether the event replies to the pickup Invoke, and by its number or by a wrong one.
+// A reply to the pickup Invoke, by its number or by a wrong one.
 #[derive(Clone, Copy)]
 enum Reply {
     Right,
     Wrong,
-    NoReply,
 }
 
-// The index of the side's first place, which stands for all places of that side.
-fn index_of(side: Side) -> usize
-    ensures { result < place_count }
-{
-    match side {
-        Side::Position => 0,
-        Side::Line => Table::POSITIONS as usize,
+impl Reply {
+    fn invoke(self) -> Invoke {
+        match self {
+            Reply::Right => Invoke(COUNT),
+            Reply::Wrong => Invoke(COUNT + 1),
+        }
+    }
+}
+
+impl fmt::Display for Reply {
+    fn fmt<W: fmt::Write>(&self, f: &mut fmt::Formatter<W>) -> fmt::Result {
+        f.write_str(match self {
+            Reply::Right => "right",
+            Reply::Wrong => "wrong",
+        })
+    }
+}
+
+// What stands in a column that may be empty.
+#[derive(Clone, Copy)]
+struct Column<T>(Option<T>);
+
+impl<T: fmt::Display> fmt::Display for Column<T> {
+    fn fmt<W: fmt::Write>(&self, f: &mut fmt::Formatter<W>) -> fmt::Result {
+        match &self.0 {
+            Some(x) => write!(f, "{x}"),
+            None => f.write_str("-"),
+        }
+    }
+}
+
+// What a row tries: an event at a place of this side in this state. The side's first place stands for all of that side. Reply and timer are there
+// where the kind names them.
+#[derive(Clone, Copy)]
+struct Row {
+    side: Side,
+    state: State,
+    kind: u8,
+    reply: Option<Reply>,
+    timer: Option<u8>,
+}
+
+impl fmt::Display for Row {
+    fn fmt<W: fmt::Write>(&self, f: &mut fmt::Formatter<W>) -> fmt::Result {
+        let side = match self.side {
+            Side::Position => "position",
+            Side::Line => "line",
+        };
+        let state = u8::from(self.state);
+        let reply = Column(self.reply);
+        let timer = Column(self.timer);
+        write!(f, "{side}\t{state}\t{}\t{reply}\t{timer}", self.kind)
+    }
+}
+
+impl Row {
+    // The only call of its side has rank 1.
+    fn table(self) -> Table {
+        let i = self.side.first();
+        let mut t = Table::empty();
+        t.places[i] = record_in(self.state);
+        t.ranks[i] = if self.state.is_free() { 0 } else { 1 };
+        t
+    }
+
+    // Fields that its kind does not name are filled all the same, since they are ignored. Choice 0: a pickup asks by name.
+    fn event(self) -> Event {
+        Event {
+            kind: self.kind,
+            call: CALL,
+            place: Place::at(self.side.first()),
+            choice: 0,
+            connection: Connection(PICKER),
+            invoke: self.reply.map_or(Invoke(0), Reply::invoke),
+            timer: self.timer.unwrap_or(0),
+        }
+    }
+
+    // The row is left out where the event is done at another place: a park that proposes a line starts at a position, and an alert that
+    // proposes a position at a line, so those are of the other side's machine.
+    fn put(self, rt: &impl Print) -> io::Result<()> {
+        let e = self.event();
+        let s = lent::single_step(self.table(), e);
+        let a = s.answer;
+        if a.number == 0 && a.place != e.place {
+            return Ok(());
+        }
+        // A refusal's answer does not say what state the place still has, so it is read from the table.
+        let after = u8::from(s.table.places[self.side.first()].state);
+        print!(rt; "{self}\t{}\t{after}\t", a.number)?;
+        print!(rt;
+            "{}\t{}\t{}\t{}\t",
+            a.first.message, a.first.error, a.started, a.stopped
+        )?;
+        println!(rt; "{}\t{}", a.second.message, a.second.error)
+    }
+
+    // The rows of a kind: one for each reply or timer that it can name.
+    fn put_each(self, rt: &impl Print) -> io::Result<()> {
+        match self.kind {
+            5..=7 => {
+                for reply in [Reply::Right, Reply::Wrong] {
+                    let reply = Some(reply);
+                    Row { reply, ..self }.put(rt)?;
+                }
+                Ok(())
+            }
+            10 => {
+                for timer in [3, 6, 9] {
+                    let timer = Some(timer);
+                    Row { timer, ..self }.put(rt)?;
+                }
+                Ok(())
+            }
+            _ => self.put(rt),
+        }
     }
 }
 
@@ -57,146 +159,35 @@ fn record_in(state: State) -> Record {
     }
 }
 
-// The only call of its side has rank 1.
-fn table_before(side: Side, state: State) -> Table {
-    let i = index_of(side);
-    let r = record_in(state);
-    let mut t = Table::empty();
-    t.places[i] = r;
-    t.ranks[i] = if state.is_free() { 0 } else { 1 };
-    t
-}
-
-// A refusal's answer does not say what state the place still has, so it is read from the table.
-fn state_after(t: Table, side: Side) -> State {
-    let r = t.places[index_of(side)];
-    r.state
-}
-
-fn invoke_of(reply: Reply) -> Invoke {
-    match reply {
-        Reply::Right => Invoke(COUNT),
-        Reply::Wrong => Invoke(COUNT + 1),
-        Reply::NoReply => Invoke(0),
-    }
-}
-
-// Fields that its kind does not name are filled all the same, since they are ignored. Choice 0: a pickup asks by name.
-fn event_at(side: Side, kind: u8, reply: Reply, timer: u8) -> Event {
-    Event {
-        kind,
-        call: CALL,
-        place: Place::at(index_of(side)),
-        choice: 0,
-        connection: Connection(PICKER),
-        invoke: invoke_of(reply),
-        timer,
-    }
-}
-
-fn put(rt: &impl Print, text: &[u8]) -> io::Result<()> {
-    rt.write_all(text)
-}
-
-fn put_side(rt: &impl Print, side: Side) -> io::Result<()> {
-    match side {
-        Side::Position => put(rt, b"position"),
-        Side::Line => put(rt, b"line"),
-    }
-}
-
-// A number in a column after the first.
-fn put_column(rt: &impl Print, n: u8) -> io::Result<()> {
-    print!(rt; "\t{n}")
-}
-
-fn put_reply(rt: &impl Print, reply: Reply) -> io::Result<()> {
-    match reply {
-        Reply::Right => put(rt, b"\tright"),
-        Reply::Wrong => put(rt, b"\twrong"),
-        Reply::NoReply => put(rt, b"\t-"),
-    }
-}
-
-fn put_timer(rt: &impl Print, timer: u8) -> io::Result<()> {
-    if timer == NO_TIMER {
-        put(rt, b"\t-")
-    } else {
-        put_column(rt, timer)
-    }
-}
-
-// The row of an event, unless the event is done at another place: a park that proposes a line starts at a position, and an alert that
-// proposes a position at a line, so those are of the other side's machine.
-fn put_row(
-    rt: &impl Print,
-    side: Side,
-    state: State,
-    kind: u8,
-    reply: Reply,
-    timer: u8,
-) -> io::Result<()> {
-    let e = event_at(side, kind, reply, timer);
-    let s = lent::single_step(table_before(side, state), e);
-    let a = s.answer;
-    if a.number == 0 {
-        if a.place.0 != e.place.0 {
-            return Ok(());
+fn put_machine(rt: &impl Print, side: Side) -> io::Result<()> {
+    for state in [
+        State::Free,
+        side.waiting(),
+        State::Requested,
+        State::RemoteRequested,
+        State::HandedOver,
+    ] {
+        for kind in 1..=10 {
+            let (reply, timer) = (None, None);
+            Row {
+                side,
+                state,
+                kind,
+                reply,
+                timer,
+            }
+            .put_each(rt)?;
         }
-    }
-    let t = s.table;
-    put_side(rt, side)?;
-    put_column(rt, state.number())?;
-    put_column(rt, kind)?;
-    put_reply(rt, reply)?;
-    put_timer(rt, timer)?;
-    put_column(rt, a.number)?;
-    put_column(rt, state_after(t, side).number())?;
-    put_column(rt, a.first.message)?;
-    put_column(rt, a.first.error)?;
-    put_column(rt, a.started)?;
-    put_column(rt, a.stopped)?;
-    put_column(rt, a.second.message)?;
-    put_column(rt, a.second.error)?;
-    put(rt, b"\n")
-}
-
-// The rows of a kind: one for each reply or timer that it can name.
-fn put_kind(rt: &impl Print, side: Side, state: State, kind: u8) -> io::Result<()> {
-    match kind {
-        5..=7 => {
-            put_row(rt, side, state, kind, Reply::Right, NO_TIMER)?;
-            put_row(rt, side, state, kind, Reply::Wrong, NO_TIMER)
-        }
-        10 => {
-            put_row(rt, side, state, kind, Reply::NoReply, 3)?;
-            put_row(rt, side, state, kind, Reply::NoReply, 6)?;
-            put_row(rt, side, state, kind, Reply::NoReply, 9)
-        }
-        _ => put_row(rt, side, state, kind, Reply::NoReply, NO_TIMER),
-    }
-}
-
-fn put_state(rt: &impl Print, side: Side, state: State) -> io::Result<()> {
-    for kind in 1..=10 {
-        put_kind(rt, side, state, kind)?;
     }
     Ok(())
 }
 
-fn put_machine(rt: &impl Print, side: Side) -> io::Result<()> {
-    put_state(rt, side, State::Free)?;
-    put_state(rt, side, side.waiting())?;
-    put_state(rt, side, State::Requested)?;
-    put_state(rt, side, State::RemoteRequested)?;
-    put_state(rt, side, State::HandedOver)
-}
-
 fn main(rt: HostRuntime) -> io::Result<()> {
-    put(
-        &rt,
-        b"side\tstate\tkind\tinvoke\ttimer\tnumber\tstate after\tmessage\terror\tstarted\tstopped\tsecond message\tsecond error\n",
+    println!(&rt;
+        "side\tstate\tkind\tinvoke\ttimer\tnumber\tstate after\tmessage\terror\tstarted\tstopped\tsecond message\tsecond error"
     )?;
-    put_machine(&rt, Side::Position)?;
-    put_machine(&rt, Side::Line)
+    for side in [Side::Position, Side::Line] {
+        put_machine(&rt, side)?;
+    }
+    Ok(())
 }

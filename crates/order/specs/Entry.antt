@@ -5,7 +5,7 @@ use Rattle.std.specs.Prelude.{◌≡◌, false, cond, not, ◌&&◌, ◌||◌, L
 use Rattle.std.proofs.lemmas.List.Edits.{sets}
 use Rattle.fields.specs.Parts.{field, tabs}
 use Rattle.fields.specs.Numbers.{decimal}
-use Rattle.lines.specs.EventLine.{longest_event, read_line}
+use Rattle.lines.specs.EventLine.{longest_event, event_said}
 use Rattle.lines.specs.BadField.{is_good}
 use Rattle.lines.specs.AnswerLine.{answer_room}
 use Rattle.image.specs.Image.{image_octets, places_sound, is_sound_image, table_from}
@@ -44,7 +44,7 @@ module _ (image line answer : List ℕ) where
       -- image not 2,016 octets; Q-4: 2,112; or table not sound
       ∷ row 25 (not (eqb (length image) image_octets) || not (places_sound image))
       -- 21 to 24, and then 1 to 12, of the event that the line says and the table that the image says
-      ∷ line_rows line (event_rows (table_from image) (read_line line).event)
+      ∷ line_rows line (event_rows (table_from image) (event_said line))
 
   -- the number of the answer; 26 has none
   abbrev pub number_at : ℕ

@@ -1,15 +1,13 @@
 -- The paper's table of refusals row by row (document 01, "Refusal numbers", "exactly when", "Checked in this order from the top; 0 is done."),
 -- and the first row that holds. This is a second reading of the same rules beside the machine; `in_order`, proofs/Order.antt, shows
 -- that the machine's number is always this one.
-use Rattle.std.specs.Prelude.{◌≡◌, Bool, true, false, cond, not, ◌&&◌, ◌||◌, List, [], ◌∷◌, ℕ, eqb, ltb, leb}
+use Rattle.std.specs.Prelude.{◌≡◌, Bool, true, false, cond, not, ◌&&◌, ◌||◌, Option, Some, None, List, [], ◌∷◌, ℕ, eqb, ltb, leb}
 use Rattle.table.specs.declared.State.{State}
 use Rattle.table.specs.declared.State.TheVariants.{Free, ParkWaiting, LineWaiting, Requested, RemoteRequested, HandedOver}
 use Rattle.table.specs.declared.Side.{Side}
 use Rattle.table.specs.declared.Side.TheVariants.{Position, Line}
 use Rattle.table.specs.declared.Record.{Record}
 use Rattle.table.specs.declared.Table.{Table}
-use Rattle.table.specs.declared.Found.{Found}
-use Rattle.table.specs.declared.Found.TheVariants.{At, Nothing}
 use Rattle.table.specs.Places.{same_state, side_at, free_record, record_at}
 use Rattle.table.specs.Timers.{timer_set}
 use Rattle.table.specs.Search.{find_call, lowest_in}
@@ -34,18 +32,18 @@ first_of (r ∷ rs) = cond r.when r.number (first_of rs)
 
 -- ---- what the rows ask
 
-abbrev pub is_found : Found → Bool
-is_found (At i) = true
-is_found Nothing = false
+abbrev pub is_found : Option ℕ → Bool
+is_found (Some i) = true
+is_found None = false
 
 -- the record that a search finds, and its side; where it finds none, anything
-abbrev pub record_found : Table → Found → Record
-record_found t (At i) = record_at t i
-record_found t Nothing = free_record
+abbrev pub record_found : Table → Option ℕ → Record
+record_found t (Some i) = record_at t i
+record_found t None = free_record
 
-abbrev pub side_found : Found → Side
-side_found (At i) = side_at i
-side_found Nothing = Position
+abbrev pub side_found : Option ℕ → Side
+side_found (Some i) = side_at i
+side_found None = Position
 
 -- "state .. 3 or 4"
 abbrev pub is_asked : State → Bool
@@ -57,7 +55,7 @@ is_asked RemoteRequested = true
 is_asked HandedOver = false
 
 module _ (t : Table) (e : Event) where
-  abbrev pub held : Found
+  abbrev pub held : Option ℕ
   held = find_call t e.call
 
   abbrev pub state : State

@@ -7,35 +7,29 @@ pub mod parked;
 pub mod parking;
 
 ghost use Rattle.std.specs.Prelude.{◌≡◌};
-ghost use Rattle.clauses.specs.Answer.{begun, replied, told, ended, refusal};
+ghost use Rattle.clauses.specs.Answer.{begun, replied, told, ended, to, no_step};
 
-use clauses::{Answer, Message, Report, Timer};
+use clauses::{Answer, Message, NoStep, Report, Step, Timer};
 
 // Something is begun: its messages go out, and a timer starts.
-pub(crate) fn begin(first: Message, second: Message, started: Timer) -> Answer
+pub(crate) fn begin(first: Message, second: Option<Message>, started: Timer) -> Answer
     ensures { result ≡ begun first second started }
 {
     Answer {
-        number: 0,
-        first,
+        first: Some(first),
         second,
-        report: Report::Quiet,
-        started,
-        stopped: Timer::NoTimer,
+        started: Some(started),
+        ..Answer::default()
     }
 }
 
 // One message goes out, or none, and that is all.
-pub(crate) fn reply(first: Message) -> Answer
+pub(crate) fn reply(first: Option<Message>) -> Answer
     ensures { result ≡ replied first }
 {
     Answer {
-        number: 0,
         first,
-        second: Message::NoMessage,
-        report: Report::Quiet,
-        started: Timer::NoTimer,
-        stopped: Timer::NoTimer,
+        ..Answer::default()
     }
 }
 
@@ -44,39 +38,39 @@ pub(crate) fn tell(report: Report) -> Answer
     ensures { result ≡ told report }
 {
     Answer {
-        number: 0,
-        first: Message::NoMessage,
-        second: Message::NoMessage,
-        report,
-        started: Timer::NoTimer,
-        stopped: Timer::NoTimer,
+        report: Some(report),
+        ..Answer::default()
     }
 }
 
-// What was begun is over: a message goes out, or none, the user is told, and the timer stops.
-pub(crate) fn end(first: Message, report: Report, stopped: Timer) -> Answer
+// What was begun is over: a message goes out, or none, the user may be told something, and the timer stops.
+pub(crate) fn end(first: Option<Message>, report: Option<Report>, stopped: Timer) -> Answer
     ensures { result ≡ ended first report stopped }
 {
     Answer {
-        number: 0,
         first,
-        second: Message::NoMessage,
         report,
-        started: Timer::NoTimer,
-        stopped,
+        stopped: Some(stopped),
+        ..Answer::default()
     }
 }
 
-// Refusal 33.
-pub(crate) fn refuse() -> Answer
-    ensures { result ≡ refusal }
+// The step to a state, with what is done.
+pub(crate) fn to<S>(state: S, answer: Answer) -> Step<S>
+    ensures { result ≡ to state answer }
 {
-    Answer {
-        number: 33,
-        first: Message::NoMessage,
-        second: Message::NoMessage,
-        report: Report::Quiet,
-        started: Timer::NoTimer,
-        stopped: Timer::NoTimer,
+    Step {
+        state,
+        answer: Ok(answer),
+    }
+}
+
+// The clause names no step.
+pub(crate) fn stay<S>(state: S) -> Step<S>
+    ensures { result ≡ no_step state }
+{
+    Step {
+        state,
+        answer: Err(NoStep),
     }
 }

@@ -17,7 +17,7 @@ use Rattle.table.specs.Places.{no_place, no_call, no_connection, no_invoke, side
 use Rattle.events.specs.declared.Event.{Event}
 use Rattle.events.specs.declared.Answer.{Answer}
 use Rattle.events.specs.declared.message.Sent.{Sent}
-use Rattle.events.specs.declared.message.Message.TheVariants.{NoMessage}
+use Rattle.std.specs.Prelude.{None}
 use Rattle.events.specs.Rule.{rule_of}
 use Rattle.events.specs.Answers.{saying}
 use Rattle.step.specs.declared.Step.{Step}
@@ -26,7 +26,7 @@ use Rattle.step.specs.Promises.{Full, SmallSent, Small}
 use Rattle.step.proofs.Stepped.{Stepped, kept, begun, ended, went_on, stepped}
 use Rattle.step.proofs.Small.{saying_small, answers_small}
 use Rattle.fields.specs.Numbers.{decimal}
-use Rattle.fields.specs.Line.{text, line_from}
+use Rattle.fields.specs.Line.{line_from}
 use Rattle.fields.proofs.Decimal.{length_digit, length_two, length_five}
 use Rattle.lines.specs.AnswerLine.{answer_line}
 use Rattle.fields.specs.Round.{CallInRange}
@@ -47,7 +47,7 @@ record Outgoing (P : ℕ → Type 0) (a : Answer) : Type 0 where
 
 module _ (P : ℕ → Type 0) (at_0 : P 0) where
   -- where one message goes out, the other is bare
-  alone : (a : Answer) → Within P a.first → a.second ≡ (saying 0 NoMessage).second → Outgoing P a
+  alone : (a : Answer) → Within P a.first → a.second ≡ (saying 0 None).second → Outgoing P a
   alone a h q = record { first = h; second = rw q (nothing_sent P at_0); one_bare = inr (rw q nothing_bare) }
 
   outgoing : (t : Table) (all : Full t) (e : Event) → ((i : ℕ) → i < place_count → P (record_at t i).connection.0) → P e.connection.0
@@ -176,13 +176,13 @@ pub room_suffices : RoomSuffices
 room_suffices t e table event = omega (arith, none_longer t e table event)
 
 pub longest_given : LongestGiven
-unfolding answer_line line_from text decimal below earliest closed_up
+unfolding answer_line line_from decimal below earliest closed_up
 longest_given = refl
 
 -- nor is the line of a number alone any longer
-pub number_short : (n : ℕ) → n ≤ 25 → length (answer_line (saying n NoMessage)) ≤ longest
+pub number_short : (n : ℕ) → n ≤ 25 → length (answer_line (saying n None)) ≤ longest
 number_short n h =
-    light_short (saying n NoMessage) (saying_small n NoMessage h)
+    light_short (saying n None) (saying_small n None h)
     (record { number_or_place = inr refl; first = inl refl; second = inl refl; one_bare = inl nothing_bare })
     (record { call = refl; first = nothing_sent (λ n. n ≤ 65535) (lit≤ tt); second = nothing_sent (λ n. n ≤ 65535) (lit≤ tt) })
 

@@ -1,7 +1,7 @@
 -- How much room the stack sets aside for the line of an answer (document 02, Q-2: "no line of an answer the table gives is longer than 77
 -- octets, line feed included"), the longest line that is really given, and that each reads back. Each statement is proved in
 -- `proofs/Room.antt` under the name that stands beside it.
-use Rattle.std.specs.Prelude.{◌≡◌, ◌⊎◌, true, List, [], ◌∷◌, ℕ, ◌≤◌, ◌<◌, length, get_or}
+use Rattle.std.specs.Prelude.{◌≡◌, ◌⊎◌, Some, List, [], ◌∷◌, ℕ, ◌≤◌, ◌<◌, length, get_or}
 use Rattle.table.specs.declared.Table.{Table}
 use Rattle.table.specs.Places.{no_place, no_connection, no_invoke, empty_table, record_at, place_count, call_octets}
 use Rattle.events.specs.declared.Event.{Event}
@@ -89,4 +89,4 @@ abbrev pub AnswersRead : Type 0
 AnswersRead =
     (t : Table) (e : Event) → TypedTable t → TypedEvent e
     → ((i : ℕ) → i < place_count → (j : ℕ) → get_or (record_at t i).call j 0 < 256) → ((j : ℕ) → get_or e.call j 0 < 256)
-    → read_answer (answer_text (step_of t e).answer) ≡ record { good = true; answer = (step_of t e).answer }
+    → read_answer (answer_text (step_of t e).answer) ≡ Some (step_of t e).answer

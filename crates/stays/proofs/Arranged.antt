@@ -11,7 +11,8 @@ use Rattle.stays.specs.Stays.{Stay, Stays, Every, BeginsBy, none, stays, count, 
 use Rattle.stays.specs.Arranged.{Numbered, Arrangement, numbered, acts, all_of, listed}
 use Rattle.stays.specs.ParkTable.{machine}
 use Rattle.stays.specs.Demand.{Act, accepted_of, stays_of, IsStart, OfStay, Frees, Runs, Ended, Running, IsArranged, IsRearranged, SameStays}
-use Rattle.stays.proofs.Lists.{every_append, every_so, every_map, every_last, map_append, map_joined, joined_append}
+use Rattle.std.proofs.lemmas.List.{map-append}
+use Rattle.stays.proofs.Lists.{every_append, every_so, every_map, every_last, map_joined, joined_append}
 use Rattle.stays.proofs.OnlyOne.{Tells, only_one}
 use Rattle.stays.proofs.AtPlaces.{arranged}
 use Rattle.stays.proofs.Numbers.{numbered_fold, ends_rise, starts_rise, same_at}
@@ -69,7 +70,7 @@ module _ (es : List Event) where
   running_are = events_of numbered_stays.running ∙ ap (λ (s : Stays Act). each s.running) forgotten
 
   all_are : map acts (all_of made) ≡ all_stays machine (stays_of es)
-  all_are = map_append acts made.ended made.running ∙ ap₂ (λ (a b : List (List Act)). a ++ b) ended_are running_are
+  all_are = map-append acts made.ended made.running ∙ ap₂ (λ (a b : List (List Act)). a ++ b) ended_are running_are
 
   listed_are : acts (listed made) ≡ stay_by_stay (stays_of es)
   listed_are =

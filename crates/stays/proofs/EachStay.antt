@@ -7,6 +7,7 @@ use mathlib.Core.List.{List, [], ◌∷◌, ◌++◌}
 use Prim.Native.Nat.{ℕ}
 use lib.Dec.{eqb}
 use borrow.Author.Tests.{eq-eqb}
+use Rattle.std.specs.Prelude.{Option, Some, None}
 use Rattle.laws.proofs.Bools.{not_both}
 use Rattle.table.specs.declared.Side.{Side}
 use Rattle.table.specs.declared.Record.{Record}
@@ -16,7 +17,7 @@ use Rattle.table.proofs.Calls.{holds_occupied}
 use Rattle.events.specs.declared.Event.{Event}
 use Rattle.events.specs.declared.Answer.{Answer}
 use Rattle.events.specs.declared.rule.Rule.{Rule}
-use Rattle.events.specs.declared.rule.Rule.TheVariants.{Start, On, Unknown}
+use Rattle.events.specs.declared.rule.Rule.TheVariants.{Start, On}
 use Rattle.events.specs.Rule.{rule_of}
 use Rattle.stays.specs.Stays.{starts, goes_on, ends, Stay, Every}
 use Rattle.stays.specs.ParkTable.{mark_by, machine}
@@ -37,14 +38,14 @@ begins_snoc (y ∷ xs) x b n = (b.0, every_append (λ z. IsStart z → ⊥) xs (
 
 -- ---- what the mark and the turn tell
 
-start_rule : (k : Rule) (n : ℕ) → mark_by k n ≡ starts → (d : Side) × (k ≡ Start d)
-start_rule (Start d) n m = (d, refl)
-start_rule (On s) n m = absurd (by (eqb n 0) m)
+start_rule : (k : Option Rule) (n : ℕ) → mark_by k n ≡ starts → (d : Side) × (k ≡ Some (Start d))
+start_rule (Some (Start d)) n m = (d, refl)
+start_rule (Some (On s)) n m = absurd (by (eqb n 0) m)
   where
     by : (b : Bool) → cond b ends goes_on ≡ starts → ⊥
     by true h = starts≢ends (sym h)
     by false h = starts≢goes (sym h)
-start_rule Unknown n m = absurd (starts≢goes (sym m))
+start_rule None n m = absurd (starts≢goes (sym m))
 
 module _ {p : ℕ} {r : Record} {e : Event} where
   -- the answer's place, call and state are those of the turn
@@ -73,7 +74,7 @@ runs {p} {c} (onward {xs} {x} h turn k q) =
     let a = answer_of turn in
     let before = runs h in
     record {
-      begins = begins_snoc xs x before.begins (λ s. starts≢goes (sym (start_mark s.1 x.answer.state) ∙ k));
+      begins = begins_snoc xs x before.begins (λ s. starts≢goes (sym (start_mark s.1 _) ∙ k));
       one = every_append (OfStay (place_at p) c) xs (x ∷ []) before.one ((a.0, a.1 ∙ q), tt);
       held = every_append (λ y. Frees y → ⊥) xs (x ∷ []) before.held (occupied turn (at_going turn k).1, tt);
     }
@@ -89,7 +90,7 @@ ended (whole {p} {c} {xs} {x} h turn k q) =
       all = refl;
       runs = runs h;
       same = (a.0, a.1 ∙ q);
-      no_start = λ s. starts≢ends (sym (start_mark s.1 x.answer.state) ∙ k);
+      no_start = λ s. starts≢ends (sym (start_mark s.1 _) ∙ k);
       frees = a.2;
     }
 

@@ -5,7 +5,7 @@ use Prim.Native.Nat.{ℕ, suc}
 use native.Mathlib.Decide.{ℕ_discrete}
 use Rattle.stays.specs.Stays.{Mark, starts, goes_on, ends, Stay, Stays, whether, longer, others, events_at, add, fold}
 use Rattle.stays.specs.Arranged.{numbered_from, acts}
-use Rattle.stays.proofs.Lists.{map_snoc}
+use Rattle.stays.proofs.Lists.{whether_through, map_snoc}
 
 -- the numbers forgotten, the events are left
 pub acts_numbered : {X : Type 0} (n : ℕ) (xs : List X) → acts (numbered_from n xs) ≡ xs
@@ -21,28 +21,24 @@ module _ {Y X : Type 0} (f : Y → X) where
 
   plain_longer : (p : ℕ) (y : Y) (ss : List (Stay Y)) → map plain (map (longer p y) ss) ≡ map (longer p (f y)) (map plain ss)
   plain_longer p y [] = refl
-  plain_longer p y (s ∷ ss) = ap₂ (λ (r : Stay X) (rs : List (Stay X)). r ∷ rs) (by (ℕ_discrete p s.at)) (plain_longer p y ss)
+  plain_longer p y (s ∷ ss) = ap₂ (λ (r : Stay X) (rs : List (Stay X)). r ∷ rs) one (plain_longer p y ss)
     where
-      by : (d : Dec (p ≡ s.at)) → plain (whether d (record { at = s.at; events = s.events ++ (y ∷ []) }) s)
-          ≡ whether d (record { at = s.at; events = map f s.events ++ (f y ∷ []) }) (plain s)
-      by (yes e) = ap (λ (l : List X). record { at = s.at; events = l }) (map_snoc f s.events y)
-      by (no n) = refl
+      one : plain (longer p y s) ≡ longer p (f y) (plain s)
+      one =
+          whether_through plain (ℕ_discrete p s.at) (record { at = s.at; events = s.events ++ (y ∷ []) }) s
+          ∙ ap (λ (l : List X). whether (ℕ_discrete p s.at) (record { at = s.at; events = l }) (plain s)) (map_snoc f s.events y)
 
   plain_others : (p : ℕ) (ss : List (Stay Y)) → map plain (others p ss) ≡ others p (map plain ss)
   plain_others p [] = refl
-  plain_others p (s ∷ ss) = by (ℕ_discrete p s.at) (plain_others p ss)
-    where
-      by : (d : Dec (p ≡ s.at)) → map plain (others p ss) ≡ others p (map plain ss) → map plain (whether d (others p ss) (s ∷ others p ss)) ≡ whether d (others p (map plain ss)) (plain s ∷ others p (map plain ss))
-      by (yes e) rec = rec
-      by (no n) rec = ap (λ rs. plain s ∷ rs) rec
+  plain_others p (s ∷ ss) =
+      let d = ℕ_discrete p s.at in
+      whether_through (map plain) d (others p ss) (s ∷ others p ss) ∙ ap (λ rs. whether d rs (plain s ∷ rs)) (plain_others p ss)
 
   plain_events : (p : ℕ) (ss : List (Stay Y)) → map f (events_at p ss) ≡ events_at p (map plain ss)
   plain_events p [] = refl
-  plain_events p (s ∷ ss) = by (ℕ_discrete p s.at) (plain_events p ss)
-    where
-      by : (d : Dec (p ≡ s.at)) → map f (events_at p ss) ≡ events_at p (map plain ss) → map f (whether d s.events (events_at p ss)) ≡ whether d (map f s.events) (events_at p (map plain ss))
-      by (yes e) rec = refl
-      by (no n) rec = rec
+  plain_events p (s ∷ ss) =
+      let d = ℕ_discrete p s.at in
+      whether_through (map f) d s.events (events_at p ss) ∙ ap (whether d (map f s.events)) (plain_events p ss)
 
   forget_add : (k : Mark) (p : ℕ) (y : Y) (s : Stays Y) → forget (add k p y s) ≡ add k p (f y) (forget s)
   forget_add starts p y s = λ j. record { ended = map (map f) s.ended; running = map_snoc plain s.running (record { at = p; events = y ∷ [] }) j }

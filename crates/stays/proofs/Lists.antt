@@ -6,6 +6,7 @@ use mathlib.Core.List.Memᴰ
 use mathlib.Core.List.{List, [], ◌∷◌, ◌++◌, map, append_assoc, Memᴰ}
 use Prim.Native.Nat.{◌+◌}
 use native.Mathlib.Omega.{arith}
+use Rattle.std.proofs.lemmas.List.{map-append}
 use Rattle.stays.specs.Stays.{whether, Every, joined, one_if, count}
 
 -- what holds of every element holds of each
@@ -34,16 +35,16 @@ pub whether_no : {P A : Type 0} (d : Dec P) (a b : A) → (P → ⊥) → whethe
 whether_no (yes h) a b n = absurd (n h)
 whether_no (no k) a b n = refl
 
-pub map_append : {A B : Type 0} (f : A → B) (xs ys : List A) → map f (xs ++ ys) ≡ map f xs ++ map f ys
-map_append f [] ys = refl
-map_append f (x ∷ xs) ys = ap (λ l. f x ∷ l) (map_append f xs ys)
+pub whether_through : {P A B : Type 0} (f : A → B) (d : Dec P) (a b : A) → f (whether d a b) ≡ whether d (f a) (f b)
+whether_through f (yes h) a b = refl
+whether_through f (no n) a b = refl
 
 pub map_snoc : {A B : Type 0} (f : A → B) (xs : List A) (x : A) → map f (xs ++ (x ∷ [])) ≡ map f xs ++ (f x ∷ [])
-map_snoc f xs x = map_append f xs (x ∷ [])
+map_snoc f xs x = map-append f xs (x ∷ [])
 
 pub map_joined : {A B : Type 0} (f : A → B) (xss : List (List A)) → map f (joined xss) ≡ joined (map (map f) xss)
 map_joined f [] = refl
-map_joined f (xs ∷ xss) = map_append f xs (joined xss) ∙ ap (λ l. map f xs ++ l) (map_joined f xss)
+map_joined f (xs ∷ xss) = map-append f xs (joined xss) ∙ ap (λ l. map f xs ++ l) (map_joined f xss)
 
 pub joined_append : {A : Type 0} (xss yss : List (List A)) → joined (xss ++ yss) ≡ joined xss ++ joined yss
 joined_append [] yss = refl

@@ -7,12 +7,11 @@ use mathlib.Core.Logic.{⊎_elim}
 use Prim.Native.Nat.{ℕ, ◌<◌}
 use native.Mathlib.Omega.{arith}
 use lib.ListN.{length}
+use Rattle.std.specs.Prelude.{Option, Some, None, Result, Ok, Err}
 use Rattle.laws.proofs.Bools.{not_both, equal_or}
 use Rattle.table.specs.declared.Side.{Side}
 use Rattle.table.specs.declared.Record.{Record}
 use Rattle.table.specs.declared.Table.{Table}
-use Rattle.table.specs.declared.Found.{Found}
-use Rattle.table.specs.declared.Found.TheVariants.{At, Nothing}
 use Rattle.table.specs.Places.{side_of, is_of, side_at, place_at, free_record, record_at, place_count, index_of}
 use Rattle.table.specs.Search.{holds, find_call}
 use Rattle.table.specs.Sound.{is_sound}
@@ -27,12 +26,12 @@ use Rattle.events.specs.declared.rule.Rule.{Rule}
 use Rattle.events.specs.declared.rule.Rule.TheVariants.{Start, On}
 use Rattle.events.specs.declared.rule.Signal.{Signal}
 use Rattle.events.specs.declared.rule.Signal.TheVariants.{LocalPickup, PickRequest, PickupResult, PickupError, ErrorInRelease, Release, Answered, Expiry}
+use Rattle.events.specs.declared.refusal.Refusal.{Refusal}
 use Rattle.events.specs.declared.refusal.Refusal.TheVariants.{ChoiceOrTimer}
-use Rattle.step.specs.declared.aim.Aim.TheVariants.{To}
 use Rattle.events.specs.declared.turn.Outcome.{Outcome}
 use Rattle.events.specs.Rule.{rule_of}
 use Rattle.events.specs.Turn.{turn_on, turn}
-use Rattle.events.specs.declared.sought.Sought.TheVariants.{Held, Never}
+use Rattle.events.specs.declared.sought.Sought.TheVariants.{Held}
 use Rattle.events.specs.Sought.{is_timer}
 use Rattle.step.specs.Aim.{chosen, aim_named, aim_new, aim_for, aim}
 use Rattle.events.specs.Act.{stay_call}
@@ -55,8 +54,8 @@ turn_by_name Answered d r e a = refl
 turn_by_name Expiry d r e a = refl
 
 -- an event that found its place, by name
-names : (k : Signal) (t : Table) (e : Event) (a : Answer) (i : ℕ) → rule_of e.kind ≡ On k → aim (On k) t e ≡ To i
-    → names_call (On k) (by_answer e a) ≡ true
+names : (k : Signal) (t : Table) (e : Event) (a : Answer) (i : ℕ) → rule_of e.kind ≡ Some (On k) → aim (Some (On k)) t e ≡ Ok i
+    → names_call (Some (On k)) (by_answer e a) ≡ true
 names LocalPickup t e a i rule h = rw rule
 names PickRequest t e a i rule h = rw rule
 names PickupResult t e a i rule h = refl
@@ -66,9 +65,9 @@ names Release t e a i rule h = refl
 names Answered t e a i rule h = refl
 names Expiry t e a i rule h = by (is_timer e.timer) h
   where
-    by : (b : Bool) → aim_for t e (cond b Held (Never ChoiceOrTimer)) ≡ To i → b ≡ true
+    by : (b : Bool) → aim_for t e (cond b (Ok Held) (Err ChoiceOrTimer)) ≡ Ok i → b ≡ true
     by true g = refl
-    by false g = absurd (let z : ◌≡◌ {A = ℕ} 0 1 = cc g in omega arith)
+    by false g = absurd (cc g)
 
 -- what an accepted step did: a turn at the place of its answer, and nothing else
 pub record Took (t : Table) (e : Event) (s : Step) : Type 0 where
@@ -121,7 +120,7 @@ module _ (t : Table) (size : length t.places ≡ place_count) (e : Event) where
 
 -- ---- a turn, done again
 
-aim_by_name : (k : Signal) (t : Table) (e : Event) → names_call (On k) e ≡ true → aim (On k) t e ≡ aim_named t e
+aim_by_name : (k : Signal) (t : Table) (e : Event) → names_call (Some (On k)) e ≡ true → aim (Some (On k)) t e ≡ aim_named t e
 aim_by_name LocalPickup t e h = rw h
 aim_by_name PickRequest t e h = rw h
 aim_by_name PickupResult t e h = refl
@@ -134,17 +133,17 @@ aim_by_name Expiry t e h = rw h
 module _ (t : Table) (size : length t.places ≡ place_count) (sound : is_sound t ≡ true) (e : Event) (p : ℕ)
     (alone : (j : ℕ) → j < place_count → (j ≡ p → ⊥) → holds e.call (record_at t j) ≡ true → ⊥) where
   -- the only place that holds the call is found
-  found : p < place_count → holds e.call (record_at t p) ≡ true → find_call t e.call ≡ At p
+  found : p < place_count → holds e.call (record_at t p) ≡ true → find_call t e.call ≡ Some p
   found inside held = by (find_call t e.call) refl
     where
-      by : (f : Found) → find_call t e.call ≡ f → f ≡ At p
-      by (At j) q =
+      by : (f : Option ℕ) → find_call t e.call ≡ f → f ≡ Some p
+      by (Some j) q =
           let h = found_passes t size (λ i. holds e.call) j q in
           ⊎_elim (λ same. rw same) (λ other. absurd (alone j h.0 other h.1)) (equal_or j p)
-      by Nothing q = absurd (not_both held (none_passes t size (λ i. holds e.call) q p inside))
+      by None q = absurd (not_both held (none_passes t size (λ i. holds e.call) q p inside))
 
   -- a call that no other place holds is nowhere, where this place is free
-  absent : record_at t p ≡ free_record → find_call t e.call ≡ Nothing
+  absent : record_at t p ≡ free_record → find_call t e.call ≡ None
   absent was = none_found t size (λ i. holds e.call) (λ j h. ⊎_elim (here j) (λ other. by (holds e.call (record_at t j)) (alone j h other)) (equal_or j p))
     where
       here : (j : ℕ) → j ≡ p → holds e.call (record_at t j) ≡ false
@@ -155,28 +154,28 @@ module _ (t : Table) (size : length t.places ≡ place_count) (sound : is_sound 
       by false n = refl
 
   -- the free place that is proposed is taken
-  aim_proposed : (d : Side) → Proposes d p (record_at t p) e → aim_new d t e ≡ To p
+  aim_proposed : (d : Side) → Proposes d p (record_at t p) e → aim_new d t e ≡ Ok p
   aim_proposed d o =
       let side : is_of d (side_of (place_at p)) ≡ true = rw o.side at (place_side p o.inside) in
       let index : index_of (place_at p).0 ≡ p = place_index p o.inside in
-      let here : chosen t d (place_at p) ≡ At p = rw (side, index, o.was) in
+      let here : chosen t d (place_at p) ≡ Some p = rw (side, index, o.was) in
       rw (absent o.was, o.proposed, here)
 
-  aim_named_lem : (k : Signal) → Acts k p (record_at t p) e → aim (On k) t e ≡ To p
+  aim_named_lem : (k : Signal) → Acts k p (record_at t p) e → aim (Some (On k)) t e ≡ Ok p
   aim_named_lem k h = aim_by_name k t e h.named ∙ rw (found h.inside h.held)
 
-  step_at_lem : (k : Rule) → rule_of e.kind ≡ k → aim k t e ≡ To p
+  step_at_lem : (k : Option Rule) → rule_of e.kind ≡ k → aim k t e ≡ Ok p
       → step_of t e ≡ settled t e p (stay_call k e (record_at t p)) (turn k (side_at p) (record_at t p) e)
   step_at_lem k rule aimed = rw (sound, rule, aimed)
 
   -- what a signal does to the call that is held here
-  settles : (k : Signal) → Acts k p (record_at t p) e → {u : Outcome} → turn_on k (side_at p) (record_at t p) e ≡ u
-      → settled t e p (record_at t p).call (turn (On k) (side_at p) (record_at t p) e) ≡ settled t e p e.call u
+  settles : (k : Signal) → Acts k p (record_at t p) e → {u : Result Outcome Refusal} → turn_on k (side_at p) (record_at t p) e ≡ u
+      → settled t e p (record_at t p).call (turn (Some (On k)) (side_at p) (record_at t p) e) ≡ settled t e p e.call u
   settles k h {u} turned =
-      let does : turn (On k) (side_at p) (record_at t p) e ≡ u = rw (holds_occupied e.call (record_at t p) h.held) turned in
+      let does : turn (Some (On k)) (side_at p) (record_at t p) e ≡ u = rw (holds_occupied e.call (record_at t p) h.held) turned in
       ap₂ (settled t e p) (holds_same e.call (record_at t p) h.held) does
 
   pub repeats : {a : Answer} {s : Record} → Turned p (record_at t p) e a s → step_of t e ≡ record { table = put t p s; answer = a }
-  repeats (opened d o) = step_at_lem (Start d) o.rule (aim_proposed d o)
-  repeats (closed k first second h turned) = step_at_lem (On k) h.rule (aim_named_lem k h) ∙ settles k h turned
-  repeats (carried k g n m h turned) = step_at_lem (On k) h.rule (aim_named_lem k h) ∙ settles k h turned
+  repeats (opened d o) = step_at_lem (Some (Start d)) o.rule (aim_proposed d o)
+  repeats (closed k first second h turned) = step_at_lem (Some (On k)) h.rule (aim_named_lem k h) ∙ settles k h turned
+  repeats (carried k g n m h turned) = step_at_lem (Some (On k)) h.rule (aim_named_lem k h) ∙ settles k h turned

@@ -6,7 +6,7 @@ use mathlib.Core.List.{List, [], ◌∷◌, ◌++◌, map}
 use Prim.Native.Nat.{ℕ}
 use native.Mathlib.Decide.{ℕ_discrete}
 use Rattle.stays.specs.Stays.{Mark, starts, goes_on, ends, In, places_of, whether, Stay, longer, others, events_at}
-use Rattle.stays.proofs.Lists.{whether_yes, whether_no}
+use Rattle.stays.proofs.Lists.{whether_yes, whether_no, whether_through}
 
 pub dec_in : (j : ℕ) (ps : List ℕ) → Dec (In j ps)
 dec_in j [] = no (λ h. h)
@@ -47,11 +47,8 @@ Follows mark place ps (x ∷ xs) = Allowed (mark x) (place x) ps × Follows mark
 
 pub without_not : (p : ℕ) (o : List ℕ) → ¬ In p o → without p o ≡ o
 without_not p [] h = refl
-without_not p (q ∷ qs) h = by (ℕ_discrete p q) (without_not p qs (λ i. h (inr i)))
-  where
-    by : (d : Dec (p ≡ q)) → without p qs ≡ qs → whether d (without p qs) (q ∷ without p qs) ≡ q ∷ qs
-    by (yes e) rec = absurd (h (inl e))
-    by (no k) rec = ap (λ l. q ∷ l) rec
+without_not p (q ∷ qs) h =
+    whether_no (ℕ_discrete p q) (without p qs) (q ∷ without p qs) (λ e. h (inl e)) ∙ ap (λ l. q ∷ l) (without_not p qs (λ i. h (inr i)))
 
 -- a place that was taken out is not there
 pub gone : (p : ℕ) (o : List ℕ) → ¬ In p (without p o)
@@ -135,12 +132,9 @@ module _ {X : Type 0} where
 
   pub places_others : (p : ℕ) (ss : List (Stay X)) → places_of (others p ss) ≡ without p (places_of ss)
   places_others p [] = refl
-  places_others p (s ∷ ss) = by (ℕ_discrete p s.at) (places_others p ss)
-    where
-      by : (d : Dec (p ≡ s.at)) → places_of (others p ss) ≡ without p (places_of ss)
-          → places_of (whether d (others p ss) (s ∷ others p ss)) ≡ whether d (without p (places_of ss)) (s.at ∷ without p (places_of ss))
-      by (yes e) rec = rec
-      by (no n) rec = ap (λ ps. s.at ∷ ps) rec
+  places_others p (s ∷ ss) =
+      let d = ℕ_discrete p s.at in
+      whether_through places_of d (others p ss) (s ∷ others p ss) ∙ ap (λ ps. whether d ps (s.at ∷ ps)) (places_others p ss)
 
 -- ---- the stay at a place, and the others
 

@@ -6,6 +6,7 @@ use mathlib.Core.List.{List, [], ◌∷◌, ◌++◌, append_assoc, append-nil}
 use mathlib.Core.Logic.{⊎_elim}
 use Prim.Native.Nat.{ℕ}
 use native.Mathlib.Omega.{arith}
+use Rattle.std.specs.Prelude.{Option, Some, Ok}
 use Rattle.table.specs.declared.Invoke.{Invoke}
 use Rattle.table.specs.declared.State.TheVariants.{RemoteRequested}
 use Rattle.table.specs.declared.Side.{Side}
@@ -43,11 +44,11 @@ waits≢4 : (a : Side) → state_number (waiting_on a) ≡ 4 → ⊥
 waits≢4 Position h = omega arith
 waits≢4 Line h = omega arith
 
-to_4 : (k : Signal) (a : Side) (r : Record) (e : Event) (g : Stage) (n : Invoke) (m : Message) → turn_on k a r e ≡ Becomes g n m
+to_4 : (k : Signal) (a : Side) (r : Record) (e : Event) (g : Stage) (n : Invoke) (m : Option Message) → turn_on k a r e ≡ Ok (Becomes g n m)
     → state_number (state_at a g) ≡ 4 → (k ≡ PickRequest) × (connection_at g ≡ e.connection)
 to_4 k a r e g n m t q = by g n m (rw t at (does k a r e)) q
   where
-    by : (g : Stage) (n : Invoke) (m : Message) → GoesOn k r e g n m → state_number (state_at a g) ≡ 4 → (k ≡ PickRequest) × (connection_at g ≡ e.connection)
+    by : (g : Stage) (n : Invoke) (m : Option Message) → GoesOn k r e g n m → state_number (state_at a g) ≡ 4 → (k ≡ PickRequest) × (connection_at g ≡ e.connection)
     by g n m (asked_here x w) h = absurd (omega arith)
     by g n m (asked_from x w) h = (x, refl)
     by g n m (handed_over c w) h = absurd (omega arith)
@@ -56,28 +57,28 @@ to_4 k a r e g n m t q = by g n m (rw t at (does k a r e)) q
 -- ---- one turn
 
 module _ {p : ℕ} {r : Record} {e : Event} where
-  requested : {a : Answer} {s : Record} → Turned p r e a s → state_number s.state ≡ 4 → (rule_of e.kind ≡ On PickRequest) × (s.connection ≡ e.connection)
+  requested : {a : Answer} {s : Record} → Turned p r e a s → state_number s.state ≡ 4 → (rule_of e.kind ≡ Some (On PickRequest)) × (s.connection ≡ e.connection)
   requested (opened d o) q = absurd (waits≢4 (side_at p) q)
   requested (closed k first second h t) q = absurd (omega arith)
-  requested (carried k g n m h t) q = let f = to_4 k (side_at p) r e g n m t q in (h.rule ∙ ap On f.0, f.1)
+  requested (carried k g n m h t) q = let f = to_4 k (side_at p) r e g n m t q in (h.rule ∙ ap (λ (s : Signal). Some (On s)) f.0, f.1)
 
   told_once : {a : Answer} {s : Record} → Turned p r e a s → state_number r.state ≡ 4 → RepliesOnce r.connection a.first a.second
   told_once (opened d o) q = absurd (let z : ◌≡◌ {A = ℕ} 0 4 = rw o.was at q in omega arith)
   told_once (closed k first second h t) q = rw t at (told k (side_at p) r e (same_number r.state RemoteRequested q))
   told_once (carried k g n m h t) q = (rw t at (told k (side_at p) r e (same_number r.state RemoteRequested q))).0
 
-  told_result : {a : Answer} {s : Record} → Turned p r e a s → state_number r.state ≡ 4 → rule_of e.kind ≡ On PickupResult → a.first.message ≡ 5
-  told_result (opened d o) q rule = absurd (let z : ◌≡◌ {A = ℕ} 0 1 = cc (sym o.rule ∙ rule) in omega arith)
+  told_result : {a : Answer} {s : Record} → Turned p r e a s → state_number r.state ≡ 4 → rule_of e.kind ≡ Some (On PickupResult) → a.first.message ≡ 5
+  told_result (opened d o) q rule = absurd (cc (sym o.rule ∙ rule))
   told_result (closed k first second h t) q rule =
       let same : k ≡ PickupResult = one_signal h.rule rule in
-      let five : turn_on PickupResult (side_at p) r e ≡ Freed first second = rw same at t in
-      ⊎_elim (λ w. absurd (let z : ◌≡◌ {A = ℕ} 0 1 = cc (sym five ∙ w) in omega arith)) (λ w. absurd (let z : ◌≡◌ {A = ℕ} 0 1 = cc (sym five ∙ w) in omega arith))
+      let five : turn_on PickupResult (side_at p) r e ≡ Ok (Freed first second) = rw same at t in
+      ⊎_elim (λ w. absurd (cc (sym five ∙ w))) (λ w. absurd (cc (sym five ∙ w)))
       (result_in_4 (side_at p) r e (same_number r.state RemoteRequested q))
   told_result (carried k g n m h t) q rule =
       let same : k ≡ PickupResult = one_signal h.rule rule in
-      let five : turn_on PickupResult (side_at p) r e ≡ Becomes g n m = rw same at t in
-      ⊎_elim (λ w. absurd (let z : ◌≡◌ {A = ℕ} 0 1 = cc (sym five ∙ w) in omega arith))
-      (λ w. let said : m ≡ PickResult r.connection = cc (sym five ∙ w) in rw said)
+      let five : turn_on PickupResult (side_at p) r e ≡ Ok (Becomes g n m) = rw same at t in
+      ⊎_elim (λ w. absurd (cc (sym five ∙ w)))
+      (λ w. let said : m ≡ Some (PickResult r.connection) = cc (sym five ∙ w) in rw said)
       (result_in_4 (side_at p) r e (same_number r.state RemoteRequested q))
 
   told_nothing : {a : Answer} {s : Record} → Turned p r e a s → (state_number r.state ≡ 4 → ⊥) → replies a.first a.second ≡ 0

@@ -8,6 +8,7 @@ use Prim.Native.Nat.{ℕ, ◌<◌, suc, ◌≤◌, ◌+◌}
 use native.Mathlib.Decide.{ℕ_discrete}
 use native.Mathlib.Omega.{arith}
 use Rattle.stays.specs.Stays.{whether, one_if, count, In, Before, first, later}
+use Rattle.stays.proofs.Lists.{whether_yes, whether_no}
 use Rattle.stays.proofs.Places.{dec_in, Distinct, without, without_not}
 
 -- the rank of `j` in the order `o`, where `n` calls of its side came before: 0 where it is not there
@@ -17,18 +18,10 @@ rank same n (q ∷ qs) j = whether (ℕ_discrete j q) (suc n) (rank same (n + on
 
 module _ (same : ℕ → ℕ → Bool) where
   rank_skip : (n : ℕ) (j q : ℕ) (qs : List ℕ) → j ≢ q → rank same n (q ∷ qs) j ≡ rank same (n + one_if (same j q)) qs j
-  rank_skip n j q qs h = by (ℕ_discrete j q)
-    where
-      by : (d : Dec (j ≡ q)) → whether d (suc n) (rank same (n + one_if (same j q)) qs j) ≡ rank same (n + one_if (same j q)) qs j
-      by (yes e) = absurd (h e)
-      by (no k) = refl
+  rank_skip n j q qs h = whether_no (ℕ_discrete j q) (suc n) (rank same (n + one_if (same j q)) qs j) h
 
   rank_head : (n : ℕ) (j q : ℕ) (qs : List ℕ) → j ≡ q → rank same n (q ∷ qs) j ≡ suc n
-  rank_head n j q qs h = by (ℕ_discrete j q)
-    where
-      by : (d : Dec (j ≡ q)) → whether d (suc n) (rank same (n + one_if (same j q)) qs j) ≡ suc n
-      by (yes e) = refl
-      by (no k) = absurd (k h)
+  rank_head n j q qs h = whether_yes (ℕ_discrete j q) (suc n) (rank same (n + one_if (same j q)) qs j) h
 
   -- a place that is not there has rank 0
   pub rank_out : (n j : ℕ) (o : List ℕ) → ¬ In j o → rank same n o j ≡ 0

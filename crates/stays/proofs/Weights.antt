@@ -1,13 +1,14 @@
 -- A number of each stay, added up over the ended and the running ones, and what one event changes of the sum: one that starts a stay adds the number
 -- of the new one; any other puts that of the longer stay in place of that of the stay so far, whether it goes on with it or ends it. The places of
 -- the running stays are distinct, so that one stay alone is longer.
-use mathlib.Core.Path.{◌≡◌, refl, ap}
+use mathlib.Core.Path.{◌≡◌, refl, ap, ◌∙◌}
 use mathlib.Core.Logic.{inl, inr}
 use mathlib.Core.List.{List, [], ◌∷◌, ◌++◌, map}
 use Prim.Native.Nat.{ℕ, ◌+◌}
 use native.Mathlib.Decide.{ℕ_discrete}
 use native.Mathlib.Omega.{arith}
 use Rattle.stays.specs.Stays.{In, places_of, starts, goes_on, ends, Stay, Stays, whether, longer, others, events_at, add}
+use Rattle.stays.proofs.Lists.{whether_no}
 use Rattle.stays.proofs.Places.{Distinct, none_longer}
 
 module _ {X : Type 0} (g : List X → ℕ) where
@@ -48,11 +49,9 @@ module _ {X : Type 0} (g : List X → ℕ) where
 
   others_not : (p : ℕ) (ss : List (Stay X)) → ¬ In p (places_of ss) → running_weight (others p ss) ≡ running_weight ss
   others_not p [] n = refl
-  others_not p (s ∷ ss) n = by (ℕ_discrete p s.at) (others_not p ss (λ i. n (inr i)))
-    where
-      by : (d : Dec (p ≡ s.at)) → running_weight (others p ss) ≡ running_weight ss → running_weight (whether d (others p ss) (s ∷ others p ss)) ≡ g s.events + running_weight ss
-      by (yes e) rec = absurd (n (inl e))
-      by (no k) rec = omega (arith, rec)
+  others_not p (s ∷ ss) n =
+      ap running_weight (whether_no (ℕ_discrete p s.at) (others p ss) (s ∷ others p ss) (λ e. n (inl e)))
+      ∙ ap (λ k. g s.events + k) (others_not p ss (λ i. n (inr i)))
 
   others_in : (p : ℕ) (ss : List (Stay X)) → Distinct (places_of ss) → In p (places_of ss) → running_weight (others p ss) + g (events_at p ss) ≡ running_weight ss
   others_in p [] d b = absurd b

@@ -17,7 +17,7 @@
 -- Then what is promised beyond it: the same stays by a fold (`same_stays`) and what they are like (`each_stay`), who is told how a pickrequ came out
 -- (`tells_requester`), who is served first (`serves_first`). At the end two runs are worked out (`worked_out`, `own_events`). The theorems of this
 -- page are those of `proofs/Demand.antt`.
-use Rattle.std.specs.Prelude.{◌≡◌, ◌⊎◌, Bool, List, [], ◌∷◌, ◌++◌, map, ℕ, ◌≤◌}
+use Rattle.std.specs.Prelude.{◌≡◌, ◌⊎◌, Bool, Some, List, [], ◌∷◌, ◌++◌, map, ℕ, ◌≤◌}
 use Rattle.table.specs.declared.Place.{Place}
 use Rattle.table.specs.declared.Connection.{Connection}
 use Rattle.table.specs.declared.Side.{Side}
@@ -47,7 +47,7 @@ accepted_of es = run machine empty_table es
 -- ---- (a) what a stay is like
 
 abbrev pub Is : Rule → Act → Type 0
-Is k x = rule_of x.event.kind ≡ k
+Is k x = rule_of x.event.kind ≡ Some k
 
 -- a park or an alert
 abbrev pub IsStart : Act → Type 0

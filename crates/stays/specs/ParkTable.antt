@@ -1,29 +1,29 @@
 -- The machine of the demand: one step of the table is `step_of`, document 01's definition. Beside it stands what is read off an
 -- accepted event and its answer: the event by name, what it does to the stay at its place, and which place that is.
-use Rattle.std.specs.Prelude.{cond, ℕ, eqb}
+use Rattle.std.specs.Prelude.{cond, Option, Some, None, ℕ, eqb}
 use Rattle.table.specs.declared.Table.{Table}
 use Rattle.table.specs.Places.{empty_table, index_of}
 use Rattle.events.specs.declared.Event.{Event}
 use Rattle.events.specs.declared.Answer.{Answer}
 use Rattle.events.specs.declared.rule.Rule.{Rule}
-use Rattle.events.specs.declared.rule.Rule.TheVariants.{Start, On, Unknown}
+use Rattle.events.specs.declared.rule.Rule.TheVariants.{Start, On}
 use Rattle.events.specs.declared.rule.Signal.TheVariants.{LocalPickup, PickRequest, PickupResult, PickupError, ErrorInRelease, Release, Answered, Expiry}
 use Rattle.events.specs.Rule.{rule_of}
 use Rattle.step.specs.Step.{step_of}
 use Rattle.stays.specs.Stays.{Mark, starts, goes_on, ends, Machine}
 
 -- "A pickup that asks by name there has choice 0": kinds 3 and 4; any other kind keeps its choice
-abbrev pub choice_by_name : Rule → ℕ → ℕ
-choice_by_name (Start d) n = n
-choice_by_name (On LocalPickup) n = 0
-choice_by_name (On PickRequest) n = 0
-choice_by_name (On PickupResult) n = n
-choice_by_name (On PickupError) n = n
-choice_by_name (On ErrorInRelease) n = n
-choice_by_name (On Release) n = n
-choice_by_name (On Answered) n = n
-choice_by_name (On Expiry) n = n
-choice_by_name Unknown n = n
+abbrev pub choice_by_name : Option Rule → ℕ → ℕ
+choice_by_name (Some (Start d)) n = n
+choice_by_name (Some (On LocalPickup)) n = 0
+choice_by_name (Some (On PickRequest)) n = 0
+choice_by_name (Some (On PickupResult)) n = n
+choice_by_name (Some (On PickupError)) n = n
+choice_by_name (Some (On ErrorInRelease)) n = n
+choice_by_name (Some (On Release)) n = n
+choice_by_name (Some (On Answered)) n = n
+choice_by_name (Some (On Expiry)) n = n
+choice_by_name None n = n
 
 -- the event, asking for the call and the place that its answer gave it: "An accepted event's call and place are those of its stay"
 abbrev pub by_answer : Event → Answer → Event
@@ -38,10 +38,10 @@ by_answer e a = record {
 }
 
 -- a park or an alert starts a stay; an event after which the state is 0 ends it; any other goes on with it
-abbrev pub mark_by : Rule → ℕ → Mark
-mark_by (Start d) state = starts
-mark_by (On s) state = cond (eqb state 0) ends goes_on
-mark_by Unknown state = goes_on
+abbrev pub mark_by : Option Rule → ℕ → Mark
+mark_by (Some (Start d)) state = starts
+mark_by (Some (On s)) state = cond (eqb state 0) ends goes_on
+mark_by None state = goes_on
 
 -- THE MACHINE
 abbrev pub machine : Machine

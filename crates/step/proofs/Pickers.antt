@@ -4,9 +4,9 @@ use mathlib.Core.Path.{◌≡◌, refl, sym, ap, ◌∙◌}
 use mathlib.Core.Bool.{false, true≢false}
 use mathlib.Core.Logic.{◌⊎◌, inl, inr, ⊎_elim}
 use Prim.Native.Nat.{ℕ, ◌<◌}
-use native.Mathlib.Omega.{arith}
 use lib.ListN.{length}
-use Rattle.laws.proofs.Bools.{equal_or}
+use Rattle.std.specs.Prelude.{Option, Some, None}
+use Rattle.laws.proofs.Bools.{impossible, equal_or}
 use Rattle.table.specs.declared.Connection.{Connection}
 use Rattle.table.specs.declared.State.TheVariants.{Free, RemoteRequested}
 use Rattle.table.specs.declared.Side.{Side}
@@ -22,7 +22,6 @@ use Rattle.events.specs.declared.rule.Rule.{Rule}
 use Rattle.events.specs.declared.rule.Rule.TheVariants.{On}
 use Rattle.events.specs.declared.rule.Signal.TheVariants.{PickRequest}
 use Rattle.events.specs.declared.message.Message.{Message}
-use Rattle.events.specs.declared.message.Message.TheVariants.{NoMessage}
 use Rattle.events.specs.declared.turn.Stage.{Stage}
 use Rattle.events.specs.declared.turn.Stage.TheVariants.{Waits, AskedHere, AskedFrom, Taken}
 use Rattle.events.specs.Rule.{rule_of}
@@ -38,22 +37,22 @@ use Rattle.step.specs.Promises.{Leaves4, PickerToldOnce, leaves, refused, Replie
 use Rattle.step.proofs.Stepped.{Stepped, kept, begun, ended, went_on, stepped}
 
 free≢remote : Free ≡ RemoteRequested → ⊥
-free≢remote q = let z : ◌≡◌ {A = ℕ} 0 1 = cc q in omega arith
+free≢remote q = impossible (cc q)
 
 -- a call whose picker waits no longer is in another state
 out_left : (a : Side) (g : Stage) → is_out g ≡ false → state_at a g ≡ RemoteRequested → ⊥
-out_left Position Waits h q = let z : ◌≡◌ {A = ℕ} 0 1 = cc q in omega arith
-out_left Line Waits h q = let z : ◌≡◌ {A = ℕ} 0 1 = cc q in omega arith
-out_left a AskedHere h q = let z : ◌≡◌ {A = ℕ} 0 1 = cc q in omega arith
+out_left Position Waits h q = impossible (cc q)
+out_left Line Waits h q = impossible (cc q)
+out_left a AskedHere h q = impossible (cc q)
 out_left a (AskedFrom c) h q = true≢false h
-out_left a Taken h q = let z : ◌≡◌ {A = ℕ} 0 1 = cc q in omega arith
+out_left a Taken h q = impossible (cc q)
 
-pub greeting_silent : (d : Side) → replies (sent (greeting d)) (sent NoMessage) ≡ 0
+pub greeting_silent : (d : Side) → replies (sent (greeting d)) (sent None) ≡ 0
 greeting_silent Position = refl
 greeting_silent Line = refl
 
 -- a refusal tells a picker only where a pickrequ is refused
-pickrequ_or_quiet : (c : Connection) (k : Rule) (m : Message) → Tells c k m → (k ≡ On PickRequest) ⊎ (replies (sent m) (sent NoMessage) ≡ 0)
+pickrequ_or_quiet : (c : Connection) (k : Option Rule) (m : Option Message) → Tells c k m → (k ≡ Some (On PickRequest)) ⊎ (replies (sent m) (sent None) ≡ 0)
 pickrequ_or_quiet c k m nothing = inr refl
 pickrequ_or_quiet c k m parker = inr refl
 pickrequ_or_quiet c k m (picker x) = inl refl
@@ -81,7 +80,7 @@ module _ (t : Table) (size : length t.places ≡ place_count) (e : Event) where
   -- ---- and not otherwise
 
   abbrev CauseOf : Step → Type 0
-  CauseOf s = ((j : ℕ) × (j < place_count) × Leaves4 t s.table j) ⊎ ((s.answer.number ≡ 0 → ⊥) × (rule_of e.kind ≡ On PickRequest))
+  CauseOf s = ((j : ℕ) × (j < place_count) × Leaves4 t s.table j) ⊎ ((s.answer.number ≡ 0 → ⊥) × (rule_of e.kind ≡ Some (On PickRequest)))
 
   cause : (s : Step) → Stepped t size e s → (replies s.answer.first s.answer.second ≡ 0 → ⊥) → CauseOf s
   cause s (kept w) some = ⊎_elim (λ rule. inr (refused_not_0 w, rule)) (λ quiet. absurd (some quiet)) (pickrequ_or_quiet e.connection (rule_of e.kind) _ (tells e.connection (rule_of e.kind) w))

@@ -6,6 +6,7 @@ use Prim.Native.Nat.{ℕ, ◌+◌, ◌≤◌}
 use native.Mathlib.Omega.{arith}
 use lib.Dec.{lit≤, ltb}
 use borrow.Author.Tests.{ltb-true}
+use Rattle.std.specs.Prelude.{Option, Some, None}
 use Rattle.table.specs.declared.State.{State}
 use Rattle.table.specs.declared.Side.{Side}
 use Rattle.table.specs.declared.Record.{Record}
@@ -16,7 +17,7 @@ use Rattle.table.proofs.States.{state_below}
 use Rattle.table.proofs.Laws.{timer_below}
 use Rattle.step.specs.declared.Step.{Step}
 use Rattle.events.specs.declared.message.Message.{Message}
-use Rattle.events.specs.declared.message.Message.TheVariants.{NoMessage, ParkResult, ParkError, Connect, Facility, PickResult, PickError, ReleaseComplete}
+use Rattle.events.specs.declared.message.Message.TheVariants.{ParkResult, ParkError, Connect, Facility, PickResult, PickError, ReleaseComplete}
 use Rattle.events.specs.declared.message.ErrorValue.TheVariants.{Undefined, CallAlreadyPickedUp}
 use Rattle.events.specs.declared.turn.Stage.TheVariants.{Waits}
 use Rattle.events.specs.Rule.{rule_of}
@@ -29,26 +30,26 @@ use Rattle.step.specs.Step.{step_of}
 use Rattle.step.specs.Promises.{SmallSent, Small, AnswersSmall}
 use Rattle.step.proofs.Stepped.{Stepped, kept, begun, ended, went_on, stepped, done}
 
-message_below : (m : Message) → (sent m).message ≤ 7
-message_below NoMessage = lit≤ tt
-message_below ParkResult = lit≤ tt
-message_below ParkError = lit≤ tt
-message_below (Connect n) = lit≤ tt
-message_below (Facility n) = lit≤ tt
-message_below (PickResult c) = lit≤ tt
-message_below (PickError c x) = lit≤ tt
-message_below ReleaseComplete = lit≤ tt
+message_below : (m : Option Message) → (sent m).message ≤ 7
+message_below None = lit≤ tt
+message_below (Some ParkResult) = lit≤ tt
+message_below (Some ParkError) = lit≤ tt
+message_below (Some (Connect n)) = lit≤ tt
+message_below (Some (Facility n)) = lit≤ tt
+message_below (Some (PickResult c)) = lit≤ tt
+message_below (Some (PickError c x)) = lit≤ tt
+message_below (Some ReleaseComplete) = lit≤ tt
 
-error_below : (m : Message) → (sent m).error ≤ 2
-error_below NoMessage = lit≤ tt
-error_below ParkResult = lit≤ tt
-error_below ParkError = lit≤ tt
-error_below (Connect n) = lit≤ tt
-error_below (Facility n) = lit≤ tt
-error_below (PickResult c) = lit≤ tt
-error_below (PickError c Undefined) = lit≤ tt
-error_below (PickError c CallAlreadyPickedUp) = lit≤ tt
-error_below ReleaseComplete = lit≤ tt
+error_below : (m : Option Message) → (sent m).error ≤ 2
+error_below None = lit≤ tt
+error_below (Some ParkResult) = lit≤ tt
+error_below (Some ParkError) = lit≤ tt
+error_below (Some (Connect n)) = lit≤ tt
+error_below (Some (Facility n)) = lit≤ tt
+error_below (Some (PickResult c)) = lit≤ tt
+error_below (Some (PickError c Undefined)) = lit≤ tt
+error_below (Some (PickError c CallAlreadyPickedUp)) = lit≤ tt
+error_below (Some ReleaseComplete) = lit≤ tt
 
 started_below : (a : Side) (s u : State) → started_set a s u ≤ 7
 started_below a s u = omega (arith, timer_below a u)
@@ -60,10 +61,10 @@ place_below i = by (ltb i place_count) refl
     by true h = omega (arith, ltb-true i place_count h)
     by false h = lit≤ tt
 
-sent_small : (m : Message) → SmallSent (sent m)
+sent_small : (m : Option Message) → SmallSent (sent m)
 sent_small m = record { message = message_below m; error = error_below m }
 
-pub saying_small : (n : ℕ) (m : Message) → n ≤ 25 → Small (saying n m)
+pub saying_small : (n : ℕ) (m : Option Message) → n ≤ 25 → Small (saying n m)
 saying_small n m h = record {
   number = h;
   place = lit≤ tt;
@@ -71,10 +72,10 @@ saying_small n m h = record {
   first = sent_small m;
   started = lit≤ tt;
   stopped = lit≤ tt;
-  second = sent_small NoMessage;
+  second = sent_small None;
 }
 
-done_small : (t : Table) (i : ℕ) (new : Record) (call : List ℕ) (first second : Message) → Small (done t i new call first second).answer
+done_small : (t : Table) (i : ℕ) (new : Record) (call : List ℕ) (first second : Option Message) → Small (done t i new call first second).answer
 done_small t i new call first second = record {
   number = lit≤ tt;
   place = place_below i;
@@ -90,6 +91,6 @@ answers_small t e all = by (step_of t e) (stepped t all.0 e)
   where
     by : (s : Step) → Stepped t all.0 e s → Small s.answer
     by s (kept w) = saying_small (refusal_number w) (refusal_message (rule_of e.kind) w e.connection) (numbered w).to
-    by s (begun d i sound rule room) = done_small t i (held_record (side_at i) Waits e.call no_invoke) e.call (greeting d) NoMessage
+    by s (begun d i sound rule room) = done_small t i (held_record (side_at i) Waits e.call no_invoke) e.call (greeting d) None
     by s (ended k i first second at turn) = done_small t i free_record (record_at t i).call first second
-    by s (went_on k i g n m at turn) = done_small t i (held_record (side_at i) g (record_at t i).call n) (record_at t i).call m NoMessage
+    by s (went_on k i g n m at turn) = done_small t i (held_record (side_at i) g (record_at t i).call n) (record_at t i).call m None

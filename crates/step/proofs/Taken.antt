@@ -3,6 +3,7 @@
 use mathlib.Core.Path.{◌≡◌, refl, ap, ◌∙◌}
 use mathlib.Core.Bool.{true}
 use mathlib.Core.Logic.{⊎_elim}
+use Rattle.std.specs.Prelude.{Option, Some}
 use Rattle.laws.proofs.Bools.{never}
 use Rattle.table.specs.declared.Invoke.{Invoke}
 use Rattle.table.specs.Places.{side_at, record_at}
@@ -30,7 +31,7 @@ pub tells_why : TellsWhy
 tells_why t e all sound kind choice j inside held =
     ⊎_elim (λ q. at LocalPickup _ _ _ (rw q) (rw choice) refl) (λ q. at PickRequest _ _ _ (rw q) (rw choice) refl) kind
   where
-    at : (k : Signal) (to : Stage) (n : Invoke) (m : Message) → rule_of e.kind ≡ On k → aim (On k) t e ≡ aim_named t e
+    at : (k : Signal) (to : Stage) (n : Invoke) (m : Option Message) → rule_of e.kind ≡ Some (On k) → aim (Some (On k)) t e ≡ aim_named t e
         → turn_on k (side_at j) (record_at t j) e ≡ picked_up (stage_of (record_at t j)) to n m → (step_of t e).answer.number ≡ pickup_number (record_at t j).state
     at k to n m rule named turn =
         on_held t all e sound j inside held k rule named (λ (s : Step). s.answer.number ≡ pickup_number (record_at t j).state)
@@ -39,7 +40,7 @@ tells_why t e all sound kind choice j inside held =
 pub taken_answer : TakenAnswer
 taken_answer t e all kind taken = by (step_of t e) (stepped t all.0 e) taken
   where
-    by : (s : Step) → Stepped t all.0 e s → is_taken s.answer.number ≡ true → s.answer ≡ saying s.answer.number (PickError e.connection CallAlreadyPickedUp)
+    by : (s : Step) → Stepped t all.0 e s → is_taken s.answer.number ≡ true → s.answer ≡ saying s.answer.number (Some (PickError e.connection CallAlreadyPickedUp))
     by s (kept w) h = rw kind (ap (saying (refusal_number w)) (taken_alike w e.connection h))
     by s (begun d i sound rule room) h = never h
     by s (ended k i first second at turn) h = never h

@@ -2,9 +2,8 @@
 use mathlib.Core.Path.{◌≡◌, refl, sym, ap, ◌∙◌}
 use mathlib.Core.Bool.{Bool, true, false, true≢false}
 use mathlib.Core.Logic.{◌⊎◌, inl, inr}
-use Prim.Native.Nat.{ℕ}
-use native.Mathlib.Omega.{arith}
-use Rattle.laws.proofs.Bools.{never, not_both}
+use Rattle.std.specs.Prelude.{Option, Some, Ok, Err}
+use Rattle.laws.proofs.Bools.{impossible, never, not_both}
 use Rattle.table.specs.declared.Invoke.{Invoke}
 use Rattle.table.specs.declared.State.{State}
 use Rattle.table.specs.declared.State.TheVariants.{Free, ParkWaiting, LineWaiting, Requested, RemoteRequested, HandedOver}
@@ -21,7 +20,7 @@ use Rattle.events.specs.declared.message.Message.TheVariants.{PickResult}
 use Rattle.events.specs.declared.refusal.Refusal.TheVariants.{NotOutstanding}
 use Rattle.events.specs.declared.turn.Stage.{Stage}
 use Rattle.events.specs.declared.turn.Stage.TheVariants.{Waits, AskedHere, AskedFrom, Taken}
-use Rattle.events.specs.declared.turn.Outcome.TheVariants.{Refused, Becomes}
+use Rattle.events.specs.declared.turn.Outcome.TheVariants.{Becomes}
 use Rattle.events.specs.Turn.{stage_by, stage_of, state_at, connection_at, is_outstanding, if_outstanding, turn_on}
 use Rattle.events.proofs.Outcomes.{GoesOn, asked_here, asked_from, handed_over, turned_down, does}
 use Rattle.step.specs.Promises.{offered, Move, starts, goes_on, hands_over, ends, is_left}
@@ -88,21 +87,21 @@ move_stage a (AskedFrom c) h = goes_on h refl
 move_stage a Taken h = hands_over h
 
 -- from state 5 a stay only ends
-taken_ends : (k : Signal) (a : Side) (r : Record) (e : Event) (g : Stage) (n : Invoke) (m : Message) → r.state ≡ HandedOver → turn_on k a r e ≡ Becomes g n m → ⊥
+taken_ends : (k : Signal) (a : Side) (r : Record) (e : Event) (g : Stage) (n : Invoke) (m : Option Message) → r.state ≡ HandedOver → turn_on k a r e ≡ Ok (Becomes g n m) → ⊥
 taken_ends k a r e g n m q h = by g n m (rw h at (does k a r e))
   where
     taken : stage_of r ≡ Taken
     taken = ap (λ s. stage_by s r.connection) q
 
-    by : (g : Stage) (n : Invoke) (m : Message) → GoesOn k r e g n m → ⊥
-    by g n m (asked_here x w) = let z : ◌≡◌ {A = ℕ} 0 1 = cc (sym taken ∙ w) in omega arith
-    by g n m (asked_from x w) = let z : ◌≡◌ {A = ℕ} 0 1 = cc (sym taken ∙ w) in omega arith
-    by g n m (handed_over c w) = let z : ◌≡◌ {A = ℕ} 0 1 = cc (sym taken ∙ w) in omega arith
-    by g n m (turned_down x c w) = let z : ◌≡◌ {A = ℕ} 0 1 = cc (sym taken ∙ w) in omega arith
+    by : (g : Stage) (n : Invoke) (m : Option Message) → GoesOn k r e g n m → ⊥
+    by g n m (asked_here x w) = impossible (cc (sym taken ∙ w))
+    by g n m (asked_from x w) = impossible (cc (sym taken ∙ w))
+    by g n m (handed_over c w) = impossible (cc (sym taken ∙ w))
+    by g n m (turned_down x c w) = impossible (cc (sym taken ∙ w))
 
 -- a stay that goes on
-pub move_on : (k : Signal) (a : Side) (r : Record) (e : Event) (g : Stage) (n : Invoke) (m : Message) → is_free r.state ≡ false
-    → turn_on k a r e ≡ Becomes g n m → Move r.state (state_at a g)
+pub move_on : (k : Signal) (a : Side) (r : Record) (e : Event) (g : Stage) (n : Invoke) (m : Option Message) → is_free r.state ≡ false
+    → turn_on k a r e ≡ Ok (Becomes g n m) → Move r.state (state_at a g)
 move_on k a r e g n m f h = move_stage a g (by r.state refl f)
   where
     by : (s : State) → r.state ≡ s → is_free s ≡ false → offered s ≡ true
@@ -116,10 +115,10 @@ move_on k a r e g n m f h = move_stage a g (by r.state refl f)
 -- ---- a result in state 4
 
 pub result_in_4 : (a : Side) (r : Record) (e : Event) → r.state ≡ RemoteRequested
-    → (turn_on PickupResult a r e ≡ Refused NotOutstanding) ⊎ (turn_on PickupResult a r e ≡ Becomes Taken r.count (PickResult r.connection))
+    → (turn_on PickupResult a r e ≡ Err NotOutstanding) ⊎ (turn_on PickupResult a r e ≡ Ok (Becomes Taken r.count (Some (PickResult r.connection))))
 result_in_4 a r e q = rw q (by (is_outstanding r e.invoke))
   where
-    by : (b : Bool) → (if_outstanding b (Becomes Taken r.count (PickResult r.connection)) ≡ Refused NotOutstanding)
-        ⊎ (if_outstanding b (Becomes Taken r.count (PickResult r.connection)) ≡ Becomes Taken r.count (PickResult r.connection))
+    by : (b : Bool) → (if_outstanding b (Becomes Taken r.count (Some (PickResult r.connection))) ≡ Err NotOutstanding)
+        ⊎ (if_outstanding b (Becomes Taken r.count (Some (PickResult r.connection))) ≡ Ok (Becomes Taken r.count (Some (PickResult r.connection))))
     by true = inr refl
     by false = inl refl

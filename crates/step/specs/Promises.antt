@@ -1,6 +1,6 @@
 -- What is promised of every event at every table, over the machine's definition: one page of statements. Each is proved under the name
 -- that stands beside it here, in `proofs/`: Promises, Pickers (Q-1), Taken (Q-3), First (Q-4) and Small.
-use Rattle.std.specs.Prelude.{◌≡◌, ◌⊎◌, List, Bool, true, false, cond, ℕ, ◌+◌, ◌≤◌, ◌<◌, ◌%◌, eqb, length}
+use Rattle.std.specs.Prelude.{◌≡◌, ◌⊎◌, List, Bool, true, false, cond, Option, Some, None, ℕ, ◌+◌, ◌≤◌, ◌<◌, ◌%◌, eqb, length}
 use Rattle.table.specs.declared.Place.{Place}
 use Rattle.table.specs.declared.Connection.{Connection}
 use Rattle.table.specs.declared.Invoke.{Invoke}
@@ -18,7 +18,7 @@ use Rattle.events.specs.declared.Event.{Event}
 use Rattle.events.specs.declared.Answer.{Answer}
 use Rattle.step.specs.declared.Step.{Step}
 use Rattle.events.specs.declared.rule.Rule.{Rule}
-use Rattle.events.specs.declared.rule.Rule.TheVariants.{Start, On, Unknown}
+use Rattle.events.specs.declared.rule.Rule.TheVariants.{Start, On}
 use Rattle.events.specs.declared.rule.Signal.TheVariants.{LocalPickup, PickRequest, PickupResult, PickupError, ErrorInRelease, Release, Answered, Expiry}
 use Rattle.events.specs.declared.message.Sent.{Sent}
 use Rattle.events.specs.Rule.{rule_of}
@@ -115,17 +115,17 @@ T3RunsThrough = (t : Table) (e : Event) → Full t → IsAccepted t e → (step_
 -- ---- matching
 
 -- kinds 5 to 10, and kinds 3 and 4 with choice 0
-abbrev pub names_call : Rule → Event → Bool
-names_call (Start d) e = false
-names_call (On LocalPickup) e = eqb e.choice 0
-names_call (On PickRequest) e = eqb e.choice 0
-names_call (On PickupResult) e = true
-names_call (On PickupError) e = true
-names_call (On ErrorInRelease) e = true
-names_call (On Release) e = true
-names_call (On Answered) e = true
-names_call (On Expiry) e = is_timer e.timer
-names_call Unknown e = false
+abbrev pub names_call : Option Rule → Event → Bool
+names_call (Some (Start d)) e = false
+names_call (Some (On LocalPickup)) e = eqb e.choice 0
+names_call (Some (On PickRequest)) e = eqb e.choice 0
+names_call (Some (On PickupResult)) e = true
+names_call (Some (On PickupError)) e = true
+names_call (Some (On ErrorInRelease)) e = true
+names_call (Some (On Release)) e = true
+names_call (Some (On Answered)) e = true
+names_call (Some (On Expiry)) e = is_timer e.timer
+names_call None e = false
 
 abbrev pub by_name : Event → Bool
 by_name e = names_call (rule_of e.kind) e
@@ -142,7 +142,7 @@ NotHeldIs5 = (t : Table) (e : Event) → Full t → is_sound t ≡ true → by_n
 
 -- `start_answers_its_call`: a park or an alert is answered with the call that it brings
 abbrev pub StartAnswersItsCall : Type 0
-StartAnswersItsCall = (t : Table) (e : Event) (d : Side) → Full t → IsAccepted t e → rule_of e.kind ≡ Start d → (step_of t e).answer.call ≡ e.call
+StartAnswersItsCall = (t : Table) (e : Event) (d : Side) → Full t → IsAccepted t e → rule_of e.kind ≡ Some (Start d) → (step_of t e).answer.call ≡ e.call
 
 -- ---- the fields of an event
 
@@ -158,17 +158,17 @@ with_fields kind call place choice connection invoke timer = record {
   timer = timer;
 }
 
-abbrev pub only_named : Rule → Event → Event
-only_named (Start d) e = with_fields e.kind e.call e.place 0 no_connection no_invoke 0
-only_named (On LocalPickup) e = with_fields e.kind e.call no_place e.choice no_connection no_invoke 0
-only_named (On PickRequest) e = with_fields e.kind e.call no_place e.choice e.connection no_invoke 0
-only_named (On PickupResult) e = with_fields e.kind e.call no_place 0 no_connection e.invoke 0
-only_named (On PickupError) e = with_fields e.kind e.call no_place 0 no_connection e.invoke 0
-only_named (On ErrorInRelease) e = with_fields e.kind e.call no_place 0 no_connection e.invoke 0
-only_named (On Release) e = with_fields e.kind e.call no_place 0 no_connection no_invoke 0
-only_named (On Answered) e = with_fields e.kind e.call no_place 0 no_connection no_invoke 0
-only_named (On Expiry) e = with_fields e.kind e.call no_place 0 no_connection no_invoke e.timer
-only_named Unknown e = with_fields e.kind no_call no_place 0 no_connection no_invoke 0
+abbrev pub only_named : Option Rule → Event → Event
+only_named (Some (Start d)) e = with_fields e.kind e.call e.place 0 no_connection no_invoke 0
+only_named (Some (On LocalPickup)) e = with_fields e.kind e.call no_place e.choice no_connection no_invoke 0
+only_named (Some (On PickRequest)) e = with_fields e.kind e.call no_place e.choice e.connection no_invoke 0
+only_named (Some (On PickupResult)) e = with_fields e.kind e.call no_place 0 no_connection e.invoke 0
+only_named (Some (On PickupError)) e = with_fields e.kind e.call no_place 0 no_connection e.invoke 0
+only_named (Some (On ErrorInRelease)) e = with_fields e.kind e.call no_place 0 no_connection e.invoke 0
+only_named (Some (On Release)) e = with_fields e.kind e.call no_place 0 no_connection no_invoke 0
+only_named (Some (On Answered)) e = with_fields e.kind e.call no_place 0 no_connection no_invoke 0
+only_named (Some (On Expiry)) e = with_fields e.kind e.call no_place 0 no_connection no_invoke e.timer
+only_named None e = with_fields e.kind no_call no_place 0 no_connection no_invoke 0
 
 -- `ignores_other_fields`: "Fields that a kind does not name are ignored."
 abbrev pub IgnoresOtherFields : Type 0
@@ -204,7 +204,7 @@ PickerToldOnce = (t : Table) (e : Event) (j : ℕ) → Full t → Leaves4 t (ste
 -- why a message 5 or 6 goes out: a call leaves state 4, or a pickrequ is refused
 pub data Cause (t : Table) (e : Event) : Type 0 where
   leaves : (j : ℕ) → j < place_count → Leaves4 t (step_of t e).table j → Cause t e
-  refused : (IsAccepted t e → ⊥) → rule_of e.kind ≡ On PickRequest → Cause t e
+  refused : (IsAccepted t e → ⊥) → rule_of e.kind ≡ Some (On PickRequest) → Cause t e
 
 -- `replies_have_cause`: none goes out otherwise
 abbrev pub RepliesHaveCause : Type 0
@@ -220,7 +220,7 @@ TellsWhy = (t : Table) (e : Event) → Full t → is_sound t ≡ true → (e.kin
 -- `taken_answer`: where one of the three refuses a pickrequ, it has message 6, its connection and error 2, and zeros everywhere else but its number
 abbrev pub TakenAnswer : Type 0
 TakenAnswer = (t : Table) (e : Event) → Full t → e.kind ≡ 4 → is_taken (step_of t e).answer.number ≡ true
-    → (step_of t e).answer ≡ saying (step_of t e).answer.number (PickError e.connection CallAlreadyPickedUp)
+    → (step_of t e).answer ≡ saying (step_of t e).answer.number (Some (PickError e.connection CallAlreadyPickedUp))
 
 -- ---- longest waiting first (document 02, Q-4)
 

@@ -1,5 +1,5 @@
 -- THE MACHINE: one event at a table, its answer and the table after it (document 01, "Events" and "Refusal numbers"; document 02).
-use Rattle.std.specs.Prelude.{cond, ℕ}
+use Rattle.std.specs.Prelude.{cond, Option, Result, Ok, Err, ℕ}
 use Rattle.table.specs.declared.Table.{Table}
 use Rattle.table.specs.Places.{record_at}
 use Rattle.table.specs.Ranks.{put}
@@ -13,8 +13,6 @@ use Rattle.events.specs.Rule.{rule_of}
 use Rattle.events.specs.Answers.{declined}
 use Rattle.events.specs.Act.{acted_by}
 use Rattle.step.specs.declared.Step.{Step}
-use Rattle.step.specs.declared.aim.Aim.{Aim}
-use Rattle.step.specs.declared.aim.Aim.TheVariants.{To, Nowhere}
 use Rattle.step.specs.Aim.{aim}
 
 -- "Each refusal keeps the table."
@@ -26,9 +24,9 @@ abbrev pub placed : Table → ℕ → Acted → Step
 placed t i a = record { table = put t i a.after; answer = a.answer }
 
 -- the event at the place that it is for, or its refusal where there is none
-abbrev pub carried_out : Rule → Table → Event → Aim → Step
-carried_out k t e (Nowhere w) = refused_by t e w
-carried_out k t e (To i) = placed t i (acted_by k e i (record_at t i))
+abbrev pub carried_out : Option Rule → Table → Event → Result ℕ Refusal → Step
+carried_out k t e (Err w) = refused_by t e w
+carried_out k t e (Ok i) = placed t i (acted_by k e i (record_at t i))
 
 -- the step where nothing is asked of the table
 abbrev pub step_any : Table → Event → Step

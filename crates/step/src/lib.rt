@@ -2,8 +2,6 @@
 // numbers", and its promises are proved in proofs/. There is no code here: the step is taken at an image (crate `lent`).
 #![tactic(auto)]
 
-pub mod aim;
-
 use events::Answer;
 use table::Table;
 

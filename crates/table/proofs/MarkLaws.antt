@@ -11,7 +11,7 @@ use lib.Dec.{eqb}
 use borrow.Author.Tests.{eqb-true, eqb-false}
 use lib.ListN.{length, get_or, set, replicate, length-set, length-replicate}
 use lib.Seq.{get_or-set_same, get_or-set_other}
-use Rattle.laws.proofs.Bools.{and_left, and_right, and_both, not_both, equal_or}
+use Rattle.laws.proofs.Bools.{impossible, and_left, and_right, and_both, not_both, equal_or}
 use Rattle.table.specs.declared.Side.{Side}
 use Rattle.table.specs.declared.Side.TheVariants.{Position, Line}
 use Rattle.table.specs.declared.Table.{Table}
@@ -61,7 +61,7 @@ module _ (t : Table) (n : ℕ) (marks : List ℕ) (M : Marked t n marks) (low : 
       differ t n k (λ sides _ ranks.
       let one : get_or marks (slot_of (side_at k) (rank_at t k)) 0 ≡ 1 = M.seen k h (λ z. ranked (ranks ∙ z)) in
       let there : slot_of side rank ≡ slot_of (side_at k) (rank_at t k) = rw (← sides, ← ranks) in
-      absurd (let z : ◌≡◌ {A = ℕ} 0 1 = sym e ∙ ap (λ (s : ℕ). get_or marks s 0) there ∙ one in omega arith))
+      impossible (sym e ∙ ap (λ (s : ℕ). get_or marks s 0) there ∙ one))
 
   -- 0 is no rank
   none_below : rank ≡ 0 → (k : ℕ) → ranks_differ t n k ≡ true

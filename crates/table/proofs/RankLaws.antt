@@ -10,13 +10,12 @@ use native.Mathlib.Omega.{arith}
 use lib.Dec.{eqb}
 use borrow.Author.Tests.{eqb-true, eqb-false, eq-eqb, ne_eqb, lt-ltb, le-ltb}
 use lib.ListN.{length, get_or, set}
-use Rattle.laws.proofs.Bools.{not_both, equal_or, less_or}
+use Rattle.laws.proofs.Bools.{impossible, not_both, equal_or, less_or}
 use Rattle.laws.proofs.Lists.{mapped_size, mapped_at}
 use Rattle.table.specs.declared.Side.{Side}
 use Rattle.table.specs.declared.Record.{Record}
 use Rattle.table.specs.declared.Table.{Table}
-use Rattle.table.specs.declared.Found.{Found}
-use Rattle.table.specs.declared.Found.TheVariants.{At, Nothing}
+use Rattle.std.specs.Prelude.{Option, Some, None}
 use Rattle.table.specs.Places.{is_free, same_side, waiting_on, side_at, blank, record_at, rank_at}
 use Rattle.table.specs.Search.{is_at, total}
 use Rattle.table.specs.Ranks.{earlier, earliest, held_on, calls_on, ranks_differ, moved_up, lowered, closed_up}
@@ -108,10 +107,10 @@ module _ (a : Side) (k : ℕ) (l : List ℕ) where
 -- ---- the waiting call that came first
 
 -- what is found below n waits on the side, and no other that waits there has a lower rank; where nothing is found none waits
-pub data First (t : Table) (a : Side) (n : ℕ) : Found → Type 0 where
+pub data First (t : Table) (a : Side) (n : ℕ) : Option ℕ → Type 0 where
   first : (i : ℕ) → i < n → is_at a (waiting_on a) i (record_at t i) ≡ true
-      → ((j : ℕ) → j < n → is_at a (waiting_on a) j (record_at t j) ≡ true → rank_at t i ≤ rank_at t j) → First t a n (At i)
-  none : ((j : ℕ) → j < n → is_at a (waiting_on a) j (record_at t j) ≡ false) → First t a n Nothing
+      → ((j : ℕ) → j < n → is_at a (waiting_on a) j (record_at t j) ≡ true → rank_at t i ≤ rank_at t j) → First t a n (Some i)
+  none : ((j : ℕ) → j < n → is_at a (waiting_on a) j (record_at t j) ≡ false) → First t a n None
 
 module _ (t : Table) (a : Side) where
   abbrev waits : ℕ → Bool
@@ -121,19 +120,19 @@ module _ (t : Table) (a : Side) where
   extend : {A : ℕ → Type 0} (n : ℕ) → A n → ((j : ℕ) → j < n → A j) → (j : ℕ) → j < suc n → A j
   extend {A} n last f j h = ⊎_elim (λ same. rw same last) (λ other. f j (omega arith)) (equal_or j n)
 
-  skipped : (n : ℕ) (f : Found) → First t a n f → waits n ≡ false → First t a (suc n) f
+  skipped : (n : ℕ) (f : Option ℕ) → First t a n f → waits n ≡ false → First t a (suc n) f
   skipped n f (first i h w least) q =
       first i (omega arith) w (extend {A = λ j. waits j ≡ true → rank_at t i ≤ rank_at t j} n (λ y. absurd (not_both y q)) least)
   skipped n f (none idle) q = none (extend {A = λ j. waits j ≡ false} n q idle)
 
   -- of two the one with the lower rank
-  earlier_new : (n i : ℕ) → rank_at t n < rank_at t i → earlier t n (At i) ≡ At n
+  earlier_new : (n i : ℕ) → rank_at t n < rank_at t i → earlier t n (Some i) ≡ Some n
   earlier_new n i lt = rw (lt-ltb (rank_at t n) (rank_at t i) lt)
 
-  earlier_old : (n i : ℕ) → rank_at t i ≤ rank_at t n → earlier t n (At i) ≡ At i
+  earlier_old : (n i : ℕ) → rank_at t i ≤ rank_at t n → earlier t n (Some i) ≡ Some i
   earlier_old n i le = rw (le-ltb (rank_at t n) (rank_at t i) le)
 
-  taken : (n : ℕ) (f : Found) → First t a n f → waits n ≡ true → First t a (suc n) (earlier t n f)
+  taken : (n : ℕ) (f : Option ℕ) → First t a n f → waits n ≡ true → First t a (suc n) (earlier t n f)
   taken n f (none idle) q =
       first n (omega arith) q (extend {A = λ j. waits j ≡ true → rank_at t n ≤ rank_at t j} n (λ y. omega arith) (λ j h y. absurd (not_both y (idle j h))))
   taken n f (first i h w least) q =
@@ -154,17 +153,17 @@ module _ (t : Table) (a : Side) where
       by false q f = skipped n (earliest t a n) f q
 
   -- what is found below n waits there, and none that waits there came before it
-  pub found_leads : (n i : ℕ) → earliest t a n ≡ At i → (i < n) × (waits i ≡ true) × ((j : ℕ) → j < n → waits j ≡ true → rank_at t i ≤ rank_at t j)
+  pub found_leads : (n i : ℕ) → earliest t a n ≡ Some i → (i < n) × (waits i ≡ true) × ((j : ℕ) → j < n → waits j ≡ true → rank_at t i ≤ rank_at t j)
   found_leads n i e = by (earliest t a n) (earliest_first n) e
     where
-      by : (f : Found) → First t a n f → f ≡ At i → (i < n) × (waits i ≡ true) × ((j : ℕ) → j < n → waits j ≡ true → rank_at t i ≤ rank_at t j)
+      by : (f : Option ℕ) → First t a n f → f ≡ Some i → (i < n) × (waits i ≡ true) × ((j : ℕ) → j < n → waits j ≡ true → rank_at t i ≤ rank_at t j)
       by f (first j h w least) q = let same : j ≡ i = cc q in subst (λ (m : ℕ). (m < n) × (waits m ≡ true) × ((k : ℕ) → k < n → waits k ≡ true → rank_at t m ≤ rank_at t k)) same (h, w, least)
-      by f (none idle) q = absurd (let z : ◌≡◌ {A = ℕ} 0 1 = cc q in omega arith)
+      by f (none idle) q = impossible (cc q)
 
-  pub found_below : (n i : ℕ) → earliest t a n ≡ At i → i < n
+  pub found_below : (n i : ℕ) → earliest t a n ≡ Some i → i < n
   found_below n i e = (found_leads n i e).0
 
-pub earliest_none : (t : Table) (a : Side) → earliest t a 0 ≡ Nothing
+pub earliest_none : (t : Table) (a : Side) → earliest t a 0 ≡ None
 unfolding earliest
 earliest_none t a = refl
 

@@ -9,7 +9,7 @@ use borrow.Author.Tests.{lt-ltb, le-ltb, le-leb, lt-leb}
 use Rattle.laws.proofs.Bools.{never, not_both, less_or}
 use Rattle.table.specs.declared.Side.{Side}
 use Rattle.table.specs.declared.Side.TheVariants.{Position, Line}
-use Rattle.table.specs.declared.Sided.TheVariants.{Of, Outside}
+use Rattle.std.specs.Prelude.{Some, None}
 use Rattle.table.specs.Places.{same_side, position_count, place_count, side_of, is_of, place_at, side_at, index_of, first_index, end_index}
 
 -- ---- two sides
@@ -59,13 +59,13 @@ less_one (suc k) h = omega arith
 -- ---- the places of a side
 
 module _ (n : ℕ) (from : 1 ≤ n) where
-  first_range : n ≤ position_count → side_of (record { 0 = n }) ≡ Of Position
+  first_range : n ≤ position_count → side_of (record { 0 = n }) ≡ Some Position
   first_range h = rw (le-ltb n 1 from, le-leb n position_count h)
 
-  second_range : position_count < n → n ≤ place_count → side_of (record { 0 = n }) ≡ Of Line
+  second_range : position_count < n → n ≤ place_count → side_of (record { 0 = n }) ≡ Some Line
   second_range h l = rw (le-ltb n 1 from, lt-leb n position_count h, le-leb n place_count l)
 
-  no_range : place_count < n → side_of (record { 0 = n }) ≡ Outside
+  no_range : place_count < n → side_of (record { 0 = n }) ≡ None
   no_range h = rw (le-ltb n 1 from, lt-leb n position_count (omega arith), lt-leb n place_count h)
 
 pub end_inside : (a : Side) → (first_index a ≤ end_index a) × (end_index a ≤ place_count)
@@ -95,12 +95,12 @@ side_first Position = side_inside Position (first_index Position) (omega arith) 
 side_first Line = side_inside Line (first_index Line) (omega arith) (omega arith)
 
 -- a place of the table has a side, and a number with a side is one of the table
-pub side_of_number : (n : ℕ) → 1 ≤ n → n ≤ place_count → side_of (record { 0 = n }) ≡ Of (side_at (index_of n))
+pub side_of_number : (n : ℕ) → 1 ≤ n → n ≤ place_count → side_of (record { 0 = n }) ≡ Some (side_at (index_of n))
 side_of_number zero from h = absurd (omega arith)
 side_of_number (suc k) from h =
     ⊎_elim
-    (λ low. first_range (suc k) from (omega arith) ∙ ap Of (sym (side_inside Position k (omega arith) low)))
-    (λ high. second_range (suc k) from (omega arith) h ∙ ap Of (sym (side_inside Line k high (omega arith))))
+    (λ low. first_range (suc k) from (omega arith) ∙ ap Some (sym (side_inside Position k (omega arith) low)))
+    (λ high. second_range (suc k) from (omega arith) h ∙ ap Some (sym (side_inside Line k high (omega arith))))
     (less_or k position_count)
 
 pub number_of_side : (d : Side) (n : ℕ) → is_of d (side_of (record { 0 = n })) ≡ true → (1 ≤ n) × (n ≤ place_count)
@@ -117,6 +117,6 @@ proposed_side d n h =
 pub place_side : (i : ℕ) → i < place_count → is_of (side_at i) (side_of (place_at i)) ≡ true
 place_side i h =
     let index : index_of (i + 1) ≡ i = let at : i + 1 ≡ suc i = omega arith in rw at in
-    let side : side_of (place_at i) ≡ Of (side_at i) =
-    ap side_of (place_of i h) ∙ side_of_number (i + 1) (omega arith) (omega arith) ∙ ap (λ (k : ℕ). Of (side_at k)) index in
+    let side : side_of (place_at i) ≡ Some (side_at i) =
+    ap side_of (place_of i h) ∙ side_of_number (i + 1) (omega arith) (omega arith) ∙ ap (λ (k : ℕ). Some (side_at k)) index in
     ap (is_of (side_at i)) side ∙ same_side_lem (side_at i) (side_at i) refl

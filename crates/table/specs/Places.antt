@@ -1,6 +1,6 @@
 -- Places and records (document 01, "Places and records"): the paper's numbers of the states, the side of a place, the free
 -- record, the one empty table. A place is counted from 1, as the paper does; an index from 0.
-use Rattle.std.specs.Prelude.{Bool, false, cond, List, [], ℕ, zero, suc, ◌+◌, eqb, ltb, leb, get_or, replicate}
+use Rattle.std.specs.Prelude.{Bool, false, cond, Option, Some, None, List, [], ℕ, zero, suc, ◌+◌, eqb, ltb, leb, get_or, replicate}
 use Rattle.table.specs.declared.Place.{Place}
 use Rattle.table.specs.declared.Connection.{Connection}
 use Rattle.table.specs.declared.Invoke.{Invoke}
@@ -8,8 +8,6 @@ use Rattle.table.specs.declared.State.{State}
 use Rattle.table.specs.declared.State.TheVariants.{Free, ParkWaiting, LineWaiting, Requested, RemoteRequested, HandedOver}
 use Rattle.table.specs.declared.Side.{Side}
 use Rattle.table.specs.declared.Side.TheVariants.{Position, Line}
-use Rattle.table.specs.declared.Sided.{Sided}
-use Rattle.table.specs.declared.Sided.TheVariants.{Of, Outside}
 use Rattle.table.specs.declared.Record.{Record}
 use Rattle.table.specs.declared.Table.{Table}
 
@@ -68,15 +66,15 @@ line_count = 32
 abbrev pub place_count : ℕ
 place_count = position_count + line_count
 
-abbrev pub side_of : Place → Sided
+abbrev pub side_of : Place → Option Side
 side_of p =
-    cond (ltb p.0 1) Outside
-    (cond (leb p.0 position_count) (Of Position)
-    (cond (leb p.0 place_count) (Of Line) Outside))
+    cond (ltb p.0 1) None
+    (cond (leb p.0 position_count) (Some Position)
+    (cond (leb p.0 place_count) (Some Line) None))
 
-abbrev pub is_of : Side → Sided → Bool
-is_of a (Of b) = same_side b a
-is_of a Outside = false
+abbrev pub is_of : Side → Option Side → Bool
+is_of a (Some b) = same_side b a
+is_of a None = false
 
 -- 0 is the number of no place
 abbrev pub no_place : Place
@@ -87,9 +85,9 @@ abbrev pub place_at : ℕ → Place
 place_at i = cond (ltb i place_count) (record { 0 = i + 1 }) no_place
 
 -- no place outside the table is ever looked at: its side is anything
-abbrev pub side_or : Sided → Side
-side_or (Of a) = a
-side_or Outside = Position
+abbrev pub side_or : Option Side → Side
+side_or (Some a) = a
+side_or None = Position
 
 abbrev pub side_at : ℕ → Side
 side_at i = side_or (side_of (place_at i))

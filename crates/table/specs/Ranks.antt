@@ -1,29 +1,27 @@
 -- Ranks (document 02, Q-4): "Each record keeps its rank among the occupied places of its side, from 1". Who is served next, what ranks a sound
 -- table has, and what becomes of them when the record of a place is put anew.
-use Rattle.std.specs.Prelude.{Bool, true, false, cond, not, ◌&&◌, List, ℕ, zero, suc, ◌+◌, ◌-◌, eqb, ltb, leb, set}
+use Rattle.std.specs.Prelude.{Bool, true, false, cond, not, ◌&&◌, Option, Some, None, List, ℕ, zero, suc, ◌+◌, ◌-◌, eqb, ltb, leb, set}
 use Rattle.laws.specs.Lists.{mapped, below}
 use Rattle.table.specs.declared.Side.{Side}
 use Rattle.table.specs.declared.Record.{Record}
 use Rattle.table.specs.declared.Table.{Table}
-use Rattle.table.specs.declared.Found.{Found}
-use Rattle.table.specs.declared.Found.TheVariants.{At, Nothing}
 use Rattle.table.specs.Places.{is_free, same_side, waiting_on, side_at, record_at, rank_at, place_count}
 use Rattle.table.specs.Search.{is_at, total}
 
 -- ---- who is served next
 
 -- of place n and the one that was found before it: the one that came first on their side
-abbrev pub earlier : Table → ℕ → Found → Found
-earlier t n Nothing = At n
-earlier t n (At i) = cond (ltb (rank_at t n) (rank_at t i)) (At n) (At i)
+abbrev pub earlier : Table → ℕ → Option ℕ → Option ℕ
+earlier t n None = Some n
+earlier t n (Some i) = cond (ltb (rank_at t n) (rank_at t i)) (Some n) (Some i)
 
 -- among the places below n
-unfoldable pub earliest : Table → Side → ℕ → Found
-earliest t a zero = Nothing
+unfoldable pub earliest : Table → Side → ℕ → Option ℕ
+earliest t a zero = None
 earliest t a (suc n) = cond (is_at a (waiting_on a) n (record_at t n)) (earlier t n (earliest t a n)) (earliest t a n)
 
 -- "With choice 1 or 2, take the waiting call that came first on its side."
-abbrev pub next_waiting : Table → Side → Found
+abbrev pub next_waiting : Table → Side → Option ℕ
 next_waiting t a = earliest t a place_count
 
 -- ---- what ranks a sound table has

@@ -1,12 +1,10 @@
 -- Looking through the records of a table: which place holds a call, the lowest place that passes a test, and sums.
-use Rattle.std.specs.Prelude.{Bool, true, false, cond, not, ◌&&◌, List, [], ◌∷◌, ℕ, ◌+◌, eqb}
+use Rattle.std.specs.Prelude.{Bool, true, false, cond, not, ◌&&◌, Option, Some, None, List, [], ◌∷◌, ℕ, ◌+◌, eqb}
 use Rattle.laws.specs.Lists.{folded}
 use Rattle.table.specs.declared.State.{State}
 use Rattle.table.specs.declared.Side.{Side}
 use Rattle.table.specs.declared.Record.{Record}
 use Rattle.table.specs.declared.Table.{Table}
-use Rattle.table.specs.declared.Found.{Found}
-use Rattle.table.specs.declared.Found.TheVariants.{At, Nothing}
 use Rattle.table.specs.Places.{is_free, same_state, same_side, side_at}
 
 -- the two calls have the same octets
@@ -25,15 +23,15 @@ abbrev pub is_at : Side → State → ℕ → Record → Bool
 is_at a s i r = same_side (side_at i) a && same_state r.state s
 
 -- the lowest index, counted from i, at which a list of anything passes the test
-abbrev pub lowest : {A : Type 0} → (ℕ → A → Bool) → ℕ → List A → Found
-lowest p = folded (λ i x later. cond (p i x) (At i) later) Nothing
+abbrev pub lowest : {A : Type 0} → (ℕ → A → Bool) → ℕ → List A → Option ℕ
+lowest p = folded (λ i x later. cond (p i x) (Some i) later) None
 
 -- where a call is held
-abbrev pub find_call : Table → List ℕ → Found
+abbrev pub find_call : Table → List ℕ → Option ℕ
 find_call t call = lowest (λ i. holds call) 0 t.places
 
 -- the lowest index of a side in a state
-abbrev pub lowest_in : Table → Side → State → Found
+abbrev pub lowest_in : Table → Side → State → Option ℕ
 lowest_in t a s = lowest (is_at a s) 0 t.places
 
 -- the sum of a number of each record, which is given its index and itself

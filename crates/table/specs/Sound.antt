@@ -1,7 +1,8 @@
 -- When a table is sound (document 01, "A table is sound when: .."; document 02, Q-4): the test that the code runs, and the same as facts by
 -- place, four of the paper's and three of the request. The two are one (`TestIsFacts`); later proofs cite the facts.
-use Rattle.std.specs.Prelude.{◌≡◌, Bool, true, false, not, ◌&&◌, ◌↔◌, ℕ, ◌<◌, ◌≤◌, eqb, length}
+use Rattle.std.specs.Prelude.{◌≡◌, Bool, true, false, not, ◌&&◌, ◌↔◌, Result, Ok, Err, ℕ, ◌<◌, ◌≤◌, eqb, length}
 use Rattle.laws.specs.Lists.{below}
+use Rattle.table.specs.declared.Unsound.{Unsound}
 use Rattle.table.specs.declared.State.{State}
 use Rattle.table.specs.declared.State.TheVariants.{Free, ParkWaiting, LineWaiting, Requested, RemoteRequested, HandedOver}
 use Rattle.table.specs.declared.Side.{Side}
@@ -49,6 +50,15 @@ records_sound t = below (record_sound t) place_count
 -- THE TEST
 abbrev pub is_sound : Table → Bool
 is_sound t = records_sound t && is_ranked t
+
+-- "25": the refusal where a table, or what should be the image of one, is not sound
+abbrev pub unsound_number : ℕ
+unsound_number = 25
+
+-- the number that is said of a query on a table or an image: 0 where it is answered, or the refusal's
+abbrev pub number_said : {A : Type 0} → Result A Unsound → ℕ
+number_said (Ok x) = 0
+number_said (Err w) = unsound_number
 
 -- THE FACTS, of every place and of every two
 pub record Sound (t : Table) : Type 0 where

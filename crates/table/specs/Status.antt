@@ -1,12 +1,14 @@
 -- The status query (document 01, "Status gives .."): four sums over the places.
-use Rattle.std.specs.Prelude.{◌≡◌, cond, ℕ, set}
+use Rattle.std.specs.Prelude.{◌≡◌, cond, Result, Ok, Err, ℕ, set}
 use Rattle.std.specs.Int.Count.{ones}
+use Rattle.std.specs.Result.{result_unwrap_or}
 use Rattle.table.specs.declared.State.{State}
 use Rattle.table.specs.declared.State.TheVariants.{Free, ParkWaiting, LineWaiting, Requested, RemoteRequested, HandedOver}
 use Rattle.table.specs.declared.Side.{Side}
 use Rattle.table.specs.declared.Side.TheVariants.{Position, Line}
 use Rattle.table.specs.declared.Record.{Record}
 use Rattle.table.specs.declared.Table.{Table}
+use Rattle.table.specs.declared.Unsound.{Unsound}
 use Rattle.table.specs.declared.status.Status.{Status}
 use Rattle.table.specs.Places.{position_count, side_at, no_call, no_connection, no_invoke, empty_table}
 use Rattle.table.specs.Timers.{timer_set}
@@ -35,19 +37,21 @@ running_at i r = ones (timer_set (side_at i) r.state)
 
 abbrev pub tally_of : Table → Status
 tally_of t = record {
-  number = 0;
   positions = total (free_on Position) 0 t.places;
   lines = total (free_on Line) 0 t.places;
   waiting = total waits_at 0 t.places;
   timers = total running_at 0 t.places;
 }
 
--- "An unsound table gives 25 and four zeros."
-abbrev pub unsound_status : Status
-unsound_status = record { number = 25; positions = 0; lines = 0; waiting = 0; timers = 0 }
+abbrev pub status_of : Table → Result Status Unsound
+status_of t = cond (is_sound t) (Ok (tally_of t)) (Err (record {}))
 
-abbrev pub status_of : Table → Status
-status_of t = cond (is_sound t) (tally_of t) unsound_status
+-- "An unsound table gives 25 and four zeros.": what is said of it, with its number (`number_said`)
+abbrev pub unsound_status : Status
+unsound_status = record { positions = 0; lines = 0; waiting = 0; timers = 0 }
+
+abbrev pub status_said : Table → Status
+status_said t = result_unwrap_or (status_of t) unsound_status
 
 -- ---- an example, computed: at position 1 a call is asked for from elsewhere (T3 and T9 run), and at line 65 another waits
 
@@ -59,4 +63,4 @@ two_calls = record {
 }
 
 abbrev pub StatusOfTwo : Type 0
-StatusOfTwo = status_of two_calls ≡ record { number = 0; positions = 63; lines = 31; waiting = 1; timers = 2 }
+StatusOfTwo = status_of two_calls ≡ Ok (record { positions = 63; lines = 31; waiting = 1; timers = 2 })

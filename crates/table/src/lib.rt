@@ -10,52 +10,39 @@ pub mod status;
 pub mod timers;
 
 ghost use Rattle.std.specs.Prelude.{◌≡◌};
-ghost use Rattle.table.specs.Places.{state_number, same_state, is_free, state_of, side_index, same_side, waiting_on, missing_on, side_of, is_of, place_at, side_at, first_index, end_index, free_record, empty_table};
+ghost use Rattle.table.specs.Places.{state_number, is_free, state_of, side_index, waiting_on, missing_on, side_of, is_of, place_at, side_at, first_index, end_index, free_record, empty_table};
+ghost use Rattle.table.specs.Sound.{unsound_number};
 
 // The number of a place: 1 to 96. Others are numbers of no place.
-#[derive(Clone, Copy)]
+#[derive(Clone, Copy, PartialEq, Eq, Default)]
 pub struct Place(pub u16);
 
 // The CallIdentifier, any value.
 pub type Call = [u8; Table::CALL_OCTETS];
 
 // The picker's connection.
-#[derive(Clone, Copy)]
+#[derive(Clone, Copy, PartialEq, Eq, Default)]
 pub struct Connection(pub u16);
 
 // The number that a pickup Invoke carries.
-#[derive(Clone, Copy)]
+#[derive(Clone, Copy, PartialEq, Eq, Default)]
 pub struct Invoke(pub u16);
 
-#[derive(Clone, Copy)]
+#[derive(Clone, Copy, PartialEq, Eq)]
 pub enum State {
-    Free,
-    ParkWaiting,
-    LineWaiting,
-    Requested,
-    RemoteRequested,
-    HandedOver,
+    Free = 0,
+    ParkWaiting = 1,
+    LineWaiting = 2,
+    Requested = 3,
+    RemoteRequested = 4,
+    HandedOver = 5,
 }
 
 // The park positions, or the alerting lines.
-#[derive(Clone, Copy)]
+#[derive(Clone, Copy, PartialEq, Eq)]
 pub enum Side {
     Position,
     Line,
-}
-
-// The side of a place number, if it is one of the table's.
-#[derive(Clone, Copy)]
-pub enum Sided {
-    Of(Side),
-    Outside,
-}
-
-// The index that a search finds.
-#[derive(Clone, Copy)]
-pub enum Found {
-    At(usize),
-    Nothing,
 }
 
 #[derive(Clone, Copy)]
@@ -66,8 +53,8 @@ pub struct Record {
     pub count: Invoke,
 }
 
-// A rank stands beside its record, not in it: it says where a call stands among the others of its side, and what an event does at one place
-// depends on no other.
+// A rank stands in a list of its own, not in the record: it says where a call stands among the others of its side, and what an event does at one
+// place, to its record, depends on no other (`acted`, events).
 #[derive(Clone, Copy)]
 pub struct Table {
     pub places: [Record; Table::PLACES],
@@ -75,22 +62,30 @@ pub struct Table {
     pub ranks: [u8; Table::PLACES],
 }
 
-impl State {
-    // The paper's number.
-    pub fn number(self) -> u8
-        ensures { result ≡ state_number self }
-    {
-        match self {
-            State::Free => 0,
-            State::ParkWaiting => 1,
-            State::LineWaiting => 2,
-            State::Requested => 3,
-            State::RemoteRequested => 4,
-            State::HandedOver => 5,
-        }
-    }
+// A table, or what should be the image of one, is not sound.
+#[derive(Clone, Copy)]
+pub struct Unsound;
 
-    // The state with a number. A number that is none's is looked at first, and gives the last.
+// The paper's number.
+impl From<State> for u8 {
+    ghost from_gives = { λ s n. n ≡ state_number s };
+
+    fn from(s: State) -> u8 {
+        s as u8
+    }
+}
+
+// The paper's number of the refusal.
+impl From<Unsound> for u8 {
+    ghost from_gives = { λ _ n. n ≡ unsound_number };
+
+    fn from(_: Unsound) -> u8 {
+        25
+    }
+}
+
+impl State {
+    // The state with a number. A number that is none's is looked at first, and gives the last: so this is no TryFrom (`state_of`).
     pub fn of(n: u8) -> State
         ensures { result ≡ state_of n }
     {
@@ -107,13 +102,7 @@ impl State {
     pub fn is_free(self) -> bool
         ensures { result ≡ is_free self }
     {
-        self.same(State::Free)
-    }
-
-    pub(crate) fn same(self, other: State) -> bool
-        ensures { result ≡ same_state self other }
-    {
-        self.number() == other.number()
+        self == State::Free
     }
 }
 
@@ -141,16 +130,7 @@ impl Side {
     pub fn index(self) -> u8
         ensures { result ≡ side_index self }
     {
-        match self {
-            Side::Position => 0,
-            Side::Line => 1,
-        }
-    }
-
-    pub fn same(self, other: Side) -> bool
-        ensures { result ≡ same_side self other }
-    {
-        self.index() == other.index()
+        self as u8
     }
 
     // The state in which a call waits on this side.
@@ -177,21 +157,7 @@ impl Side {
     pub fn at(i: usize) -> Side
         ensures { result ≡ side_at i }
     {
-        match Place::at(i).side() {
-            Sided::Of(a) => a,
-            Sided::Outside => Side::Position,
-        }
-    }
-}
-
-impl Sided {
-    pub fn is_of(self, a: Side) -> bool
-        ensures { result ≡ is_of a self }
-    {
-        match self {
-            Sided::Of(b) => b.same(a),
-            Sided::Outside => false,
-        }
+        Place::at(i).side().unwrap_or(Side::Position)
     }
 }
 
@@ -200,15 +166,21 @@ impl Place {
 
     const LAST: u16 = Table::POSITIONS + Table::LINES;
 
-    pub fn side(self) -> Sided
+    // Its side, if it is one of the table's.
+    pub fn side(self) -> Option<Side>
         ensures { result ≡ side_of self }
     {
-        let n = self.0;
-        match n {
-            1..=Table::POSITIONS => Sided::Of(Side::Position),
-            Place::FIRST_LINE..=Place::LAST => Sided::Of(Side::Line),
-            _ => Sided::Outside,
+        match self.0 {
+            1..=Table::POSITIONS => Some(Side::Position),
+            Place::FIRST_LINE..=Place::LAST => Some(Side::Line),
+            _ => None,
         }
+    }
+
+    pub fn is_on(self, a: Side) -> bool
+        ensures { result ≡ is_of a (side_of self) }
+    {
+        self.side() == Some(a)
     }
 
     // The place at an index, or 0, the number of no place, past the table.

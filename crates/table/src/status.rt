@@ -1,9 +1,8 @@
 // The status query: free positions and lines, waiting calls, running timers. What it gives of a table is defined in specs/Status.antt.
 
-// What a status query gives; `number` is 0, or the refusal.
-#[derive(Clone, Copy)]
+// What a status query gives of a sound table.
+#[derive(Clone, Copy, Default)]
 pub struct Status {
-    pub number: u8,
     // free ones
     pub positions: u32,
     pub lines: u32,

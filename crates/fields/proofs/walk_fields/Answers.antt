@@ -1,76 +1,71 @@
 -- A turn goes on by a field or ends the walk, by the laws of `Walk`.
-use Rattle.std.proofs.Common.{◌≡◌, ℕ, ◌+◌, ◌-◌, ◌<◌, ◌≤◌, ◌^◌, List, length, drop, get_or, sym, ap, ap₂, ◌∙◌, arith, rules}
-use Rattle.std.proofs.lemmas.Bool.{not-true, not-false}
+use Rattle.std.proofs.Common.{◌≡◌, ◌+◌, ◌-◌, ◌<◌, length, drop, sym, ap, ap₂, ◌∙◌, arith, None}
+use Rattle.std.proofs.lemmas.Result.{err_from_is_err_and}
 use Rattle.std.proofs.Math.ListN.{length-set}
 use Rattle.laws.proofs.Runs.{part_rest}
+use Rattle.fields.specs.declared.Kind.TheVariants.{Call, Number}
+use Rattle.fields.specs.declared.Fault.TheVariants.{BadField}
 use Rattle.fields.specs.Parts.{before}
 use Rattle.fields.specs.Calls.{call_of}
 use Rattle.fields.specs.Numbers.{number_of}
 use Rattle.fields.specs.Line.{walk}
-use Rattle.fields.proofs.NumberLaws.{number_most}
-use Rattle.fields.proofs.Walk.{call_bad, number_bad, call_good, number_good, walk_end, tab_on}
+use Rattle.fields.proofs.Walk.{blamed, at_kind, call_bad, number_bad, call_good, number_good, tab_on}
 use Rattle.fields.proofs.walk_fields.Goals as goal
-use Rattle.fields.proofs.walk_fields.Goals.{then-m-eq-CALL+else-not-c, else-m-eq-CALL+in-Is}
+use Rattle.fields.proofs.walk_fields.Goals.{in-Call+in_ok-call-in-Call, in-Number+in_ok-value-in-Number}
 
-pub returns-then-not-c : goal.returns-then-not-c
-returns-then-not-c c =
+pub returns-in_err-call-in-Call : goal.returns-in_err-call-in-Call
+returns-in_err-call-in-Call c =
     let line = c.args.line.now in
-    let most = c.args.description.now in
-    let field = c.first_field-field.ensures ∙ ap before (part_rest line c.loop-i.at) in
-    let bad = not-true c.read_call-c.result.good c.if-not-c.true in
-    c.fail.ensures
-    ∙ sym (call_bad line most _ _ c.loop-i.at c.loop-i.i c.loop-i-test.true c.read_call-c.result c.if-m-eq-CALL.true (c.read_call-c.ensures ∙ ap call_of field) bad)
-    ∙ c.loop-i.invariant.3
+    let l = c.loop-i in
+    let field = c.first_field-field.ensures ∙ ap before (part_rest line l.at) in
+    let none : c.read_call.result ≡ None = c.in_err-call-in-Call.ensures.ok_part in
+    let here = at_kind c.args.description.now l.i Call Call c.loop-i-test.true c.in-Call.is in
+    let p = err_from_is_err_and c.from_residual.result c.from_residual.ensures.1 in
+    let blamed : c.in_err-call-in-Call.field-0.0 ≡ BadField (l.i + 1) = blamed c.read_call.result _ _ none c.in_err-call-in-Call.ensures.value in
+    rw (p.1, p.2, blamed)
+    (sym (call_bad line _ _ l.values l.call l.at l.i here (sym (c.read_call.ensures ∙ ap call_of field) ∙ none)) ∙ l.invariant.3)
 
-pub returns-in_default : goal.returns-in_default
-returns-in_default c =
+pub returns-in_err-value-in-Number : goal.returns-in_err-value-in-Number
+returns-in_err-value-in-Number c =
     let line = c.args.line.now in
-    let most = c.args.description.now in
-    let field = c.first_field-field.ensures ∙ ap before (part_rest line c.loop-i.at) in
-    let read = c.read_number.ensures ∙ ap (λ (f : List ℕ). number_of f (get_or most c.loop-i.i 0)) field in
-    c.fail-in_default.ensures
-    ∙ sym (number_bad line most _ _ c.loop-i.at c.loop-i.i c.loop-i-test.true c.if-m-eq-CALL.false (sym read ∙ c.in_default.is))
-    ∙ c.loop-i.invariant.3
-
-pub overflow_cast-values : goal.overflow_cast-values
-overflow_cast-values c =
-    let line = c.args.line.now in
-    let most = c.args.description.now in
-    let field = c.first_field-field.ensures ∙ ap before (part_rest line c.loop-i.at) in
-    let read = c.read_number.ensures ∙ ap (λ (f : List ℕ). number_of f (get_or most c.loop-i.i 0)) field in
-    let low : c.in-Is.v ≤ get_or most c.loop-i.i 0 = number_most (before (drop c.loop-i.at line)) (get_or most c.loop-i.i 0) _ (sym read ∙ c.in-Is.is) in
-    let top : get_or most c.loop-i.i 0 < 2 ^ 16 = search rules in
-    omega arith
+    let l = c.loop-i in
+    let most = c.in-Number.most in
+    let field = c.first_field-field.ensures ∙ ap before (part_rest line l.at) in
+    let none : c.read_number.result ≡ None = c.in_err-value-in-Number.ensures.ok_part in
+    let here = at_kind c.args.description.now l.i Call (Number most) c.loop-i-test.true c.in-Number.is in
+    let p = err_from_is_err_and c.from_residual-in_err-value-in-Number.result c.from_residual-in_err-value-in-Number.ensures.1 in
+    let blamed : c.in_err-value-in-Number.field-0.0 ≡ BadField (l.i + 1) = blamed c.read_number.result _ _ none c.in_err-value-in-Number.ensures.value in
+    rw (p.1, p.2, blamed)
+    (sym (number_bad line _ _ l.values l.call l.at l.i most here (sym (c.read_number.ensures ∙ ap₂ number_of field c.from.ensures) ∙ none)) ∙ l.invariant.3)
 
 pub loop-i-preserved : goal.loop-i-preserved
 loop-i-preserved c =
     let line = c.args.line.now in
-    let most = c.args.description.now in
-    let at = c.loop-i.at in
-    let i = c.loop-i.i in
+    let kinds = c.args.description.now in
+    let l = c.loop-i in
+    let at = l.at in
+    let i = l.i in
     let part = c.first_field-field.result.now in
-    let within : i < length most = c.loop-i-test.true in
+    let within : i < length kinds = c.loop-i-test.true in
     let field : part ≡ before (drop at line) = c.first_field-field.ensures ∙ ap before (part_rest line at) in
     let e = length part in
     let ends : e ≡ length (before (drop at line)) = ap length field in
-    let here = c.loop-i.invariant.2 within in (
+    let here = l.invariant.2 within in (
       omega arith,
-      elim c.if-m-eq-CALL.branch [
-        | then-m-eq-CALL+else-not-c w ↦ ap length w.values-is ∙ c.loop-i.invariant.1
-        | else-m-eq-CALL+in-Is w ↦ ap length w.values-is ∙ length-set c.loop-i.values i _ ∙ c.loop-i.invariant.1
+      elim c.match-kind.branch [
+        | in-Call+in_ok-call-in-Call w ↦ ap length w.values-is ∙ l.invariant.1
+        | in-Number+in_ok-value-in-Number w ↦ ap length w.values-is ∙ length-set l.values i _ ∙ l.invariant.1
       ],
-      λ more. let t = tab_on line at e (length most - (i + 1) - 1) here.0 ends (omega arith) in (t.0, omega arith),
-      elim c.if-m-eq-CALL.branch [
-        | then-m-eq-CALL+else-not-c w ↦
-            ap₂ (walk (drop (i + 1) most) (i + 1) (drop (at + e + 1) line)) w.values-is w.call-is
-            ∙ sym (call_good line most _ _ at i within e ends w.read_call-c.result w.if-m-eq-CALL.true (w.read_call-c.ensures ∙ ap call_of field) (not-false w.read_call-c.result.good w.if-not-c.false))
-        | else-m-eq-CALL+in-Is w ↦
-            ap₂ (walk (drop (i + 1) most) (i + 1) (drop (at + e + 1) line)) w.values-is w.call-is
-            ∙ sym (number_good line most _ _ at i within e ends w.in-Is.v w.if-m-eq-CALL.false (sym (w.read_number.ensures ∙ ap (λ (f : List ℕ). number_of f (get_or most i 0)) field) ∙ w.in-Is.is))
-      ] ∙ c.loop-i.invariant.3,
+      λ more. let t = tab_on line at e (length kinds - (i + 1) - 1) here.0 ends (omega arith) in (t.0, omega arith),
+      elim c.match-kind.branch [
+        | in-Call+in_ok-call-in-Call w ↦
+            ap₂ (walk (drop (i + 1) kinds) (i + 1) (drop (at + (e + 1)) line)) w.values-is w.call-is
+            ∙ sym (call_good line _ _ l.values l.call at i e ends w.in_ok-call-in-Call.call (at_kind kinds i Call Call within w.in-Call.is)
+            (sym (w.read_call.ensures ∙ ap call_of field) ∙ w.in_ok-call-in-Call.ensures.ok_part))
+        | in-Number+in_ok-value-in-Number w ↦
+            ap₂ (walk (drop (i + 1) kinds) (i + 1) (drop (at + (e + 1)) line)) w.values-is w.call-is
+            ∙ sym (number_good line _ _ l.values l.call at i e ends w.in-Number.most w.in_ok-value-in-Number.value
+            (at_kind kinds i Call (Number w.in-Number.most) within w.in-Number.is)
+            (sym (w.read_number.ensures ∙ ap₂ number_of field w.from.ensures) ∙ w.in_ok-value-in-Number.ensures.ok_part))
+      ] ∙ l.invariant.3,
     )
-
-pub returns : goal.returns
-returns c =
-    sym (walk_end (drop c.loop-i.at c.args.line.now) c.args.description.now c.loop-i.values c.loop-i.call c.loop-i.i c.loop-i-test.false)
-    ∙ c.loop-i.invariant.3

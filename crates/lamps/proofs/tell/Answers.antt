@@ -1,35 +1,21 @@
--- The step is the table's own; the place of an accepted event has an index (`accepted_inside`). That the arrays have their lengths, which a search
--- does not reach here, is taken from what is known of the argument's type.
-use Rattle.std.proofs.Common.{◌≡◌, length, eq-eqb}
+-- The step is the table's own; the place of an accepted event is one of the table's (`accepted_inside`). That the arrays have their lengths, which a
+-- search does not reach here, is taken from what is known of the argument's type.
+use Rattle.std.proofs.Common.{◌≡◌, length, eq-eqb, ne_eqb}
 use Rattle.table.specs.Places.{place_count}
 use Rattle.lamps.proofs.Accepted.{accepted_inside}
 use Rattle.lamps.proofs.tell.Goals as goal
-
-pub overflow_sub-i : goal.overflow_sub-i
-overflow_sub-i c =
-    let t = c.args.s.table in
-    let size : length t.places ≡ place_count = c.well_formed.0.1.1.0.1.1.0.1.0.1 in
-    let ranks : length t.ranks ≡ place_count = c.well_formed.0.1.1.0.1.1.1.0.1.0.1 in
-    (accepted_inside t c.args.e c.single_step-done.result (size, ranks) c.single_step-done.ensures c.if-answer-eq0.true).from_1
-
-pub bounds-t-i : goal.bounds-t-i
-bounds-t-i c =
-    let t = c.args.s.table in
-    let size : length t.places ≡ place_count = c.well_formed.0.1.1.0.1.1.0.1.0.1 in
-    let ranks : length t.ranks ≡ place_count = c.well_formed.0.1.1.0.1.1.1.0.1.0.1 in
-    (accepted_inside t c.args.e c.single_step-done.result (size, ranks) c.single_step-done.ensures c.if-answer-eq0.true).to_place_count
+use Rattle.lamps.proofs.tell.Goals.{then-answer-eq0, else-answer-eq0}
 
 pub notify-lit-requires : goal.notify-lit-requires
 notify-lit-requires c =
     let t = c.args.s.table in
     let size : length t.places ≡ place_count = c.well_formed.0.1.1.0.1.1.0.1.0.1 in
     let ranks : length t.ranks ≡ place_count = c.well_formed.0.1.1.0.1.1.1.0.1.0.1 in
-    (accepted_inside t c.args.e c.single_step-done.result (size, ranks) c.single_step-done.ensures c.if-answer-eq0.true).to_place_count
+    accepted_inside t c.args.e c.single_step-done.result (size, ranks) c.single_step-done.ensures c.if-answer-eq0.true
 
-pub returns-then-answer-eq0 : goal.returns-then-answer-eq0
-returns-then-answer-eq0 c =
-    let t = c.args.s.table in
-    let size : length t.places ≡ place_count = c.well_formed.0.1.1.0.1.1.0.1.0.1 in
-    let ranks : length t.ranks ≡ place_count = c.well_formed.0.1.1.0.1.1.1.0.1.0.1 in
-    let index = (accepted_inside t c.args.e c.single_step-done.result (size, ranks) c.single_step-done.ensures c.if-answer-eq0.true).index in
-    rw (c.notify-lit.ensures, ← c.single_step-done.ensures, eq-eqb _ 0 c.if-answer-eq0.true, ← index)
+pub returns : goal.returns
+returns c =
+    elim c.if-answer-eq0.branch [
+      | then-answer-eq0 w ↦ rw (w.lit-is, w.notify-lit.ensures, ← c.single_step-done.ensures, eq-eqb _ 0 w.if-answer-eq0.true)
+      | else-answer-eq0 w ↦ rw (w.lit-is, w.leave-lit.ensures, ← c.single_step-done.ensures, ne_eqb _ 0 w.if-answer-eq0.false)
+    ]

@@ -9,4 +9,4 @@ use Rattle.lent.proofs.act_on.Goals as goal
 pub act_at-requires : goal.act_at-requires
 act_at-requires c =
     let s = c.args in
-    (c.requires, aim_inside (table_from s.image.now) (fit_from s.image.now c.requires).size (rule_of s.e.kind) s.e _ (sym c.aim_of.ensures ∙ c.in-To.is))
+    aim_inside (table_from s.image.now) (fit_from s.image.now c.told-image).size (rule_of s.e.kind) s.e _ (sym c.aim_of.ensures ∙ c.in-Ok.is)

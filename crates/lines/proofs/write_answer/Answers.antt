@@ -19,8 +19,7 @@ returns-then-n-eq0 c =
     let a = c.args.a in
     let out = c.args.out.now in
     let long : length a.call ≡ 16 = search rules in
-    let wrote : Writes (take (length out - 1) out) (answer_text a) c.write_fields-n.result c.write_fields-n.new.out =
-    rw c.answer_values.ensures at c.write_fields-n.ensures in
+    let wrote : Writes (take (length out - 1) out) (answer_text a) c.write-n.result c.write-n.new.out = c.write-n.ensures in
     none_written out (answer_text a) _ _ (omega arith) (some a long) wrote c.if-n-eq0.true
 
 pub returns : goal.returns
@@ -29,6 +28,5 @@ returns c =
     let a = c.args.a in
     let out = c.args.out.now in
     let long : length a.call ≡ 16 = search rules in
-    let wrote : Writes (take (length out - 1) out) (answer_text a) c.write_fields-n.result c.write_fields-n.new.out =
-    rw c.answer_values.ensures at c.write_fields-n.ensures in
+    let wrote : Writes (take (length out - 1) out) (answer_text a) c.write-n.result c.write-n.new.out = c.write-n.ensures in
     feed_written out (answer_text a) _ _ (omega arith) (some a long) wrote c.if-n-eq0.false

@@ -21,8 +21,8 @@ pub slice_bounds-room-end : goal.slice_bounds-room-end
 slice_bounds-room-end g c =
     fits c.args.image.now c.args.line.now _ _ (λ j. search rules) c.answer_line-a.ensures.0 c.answer_length-offered.ensures
 
-pub slice_bounds-put_answer-end : goal.slice_bounds-put_answer-end
-slice_bounds-put_answer-end g c =
+pub slice_bounds-print_answer-end : goal.slice_bounds-print_answer-end
+slice_bounds-print_answer-end g c =
     sym
     (length-take-le
     c.answer_length-offered.result

@@ -1,13 +1,7 @@
 -- Up to five digits are told by the powers of ten; any five more by the number without its last five.
-use Rattle.std.proofs.Common.{◌/◌, sym, arith}
-use Rattle.fields.proofs.Decimal.{length_digit, length_exact, length_five_more, decimal_twenty}
+use Rattle.std.proofs.Common.{sym, arith}
+use Rattle.fields.proofs.Decimal.{length_exact}
 use Rattle.fields.proofs.numbers.+digits.Goals as goal
-
-pub overflow_add-result : goal.overflow_add-result
-overflow_add-result t c = omega (arith, c.digits.ensures, decimal_twenty (c.args.n / 100000))
-
-pub returns-then-n-lt10 : goal.returns-then-n-lt10
-returns-then-n-lt10 t c = sym (length_digit c.args.n (omega arith))
 
 pub returns-then-n-lt100 : goal.returns-then-n-lt100
 returns-then-n-lt100 t c = sym (length_exact 1 c.args.n (omega arith) (omega arith) (omega arith))
@@ -20,6 +14,3 @@ returns-then-n-lt10000 t c = sym (length_exact 3 c.args.n (omega arith) (omega a
 
 pub returns-then-n-lt100000 : goal.returns-then-n-lt100000
 returns-then-n-lt100000 t c = sym (length_exact 4 c.args.n (omega arith) (omega arith) (omega arith))
-
-pub returns-else-n-lt100000 : goal.returns-else-n-lt100000
-returns-else-n-lt100000 t c = omega (arith, c.digits.ensures, length_five_more c.args.n (omega arith) (omega arith))

@@ -1,7 +1,6 @@
 -- The calls so far and those of the places that are left are all.
-use Rattle.std.proofs.Common.{◌≡◌, ℕ, ◌+◌, ◌-◌, ◌≤◌, List, drop}
+use Rattle.std.proofs.Common.{◌≡◌, ℕ, ◌+◌, ◌≤◌, List, drop}
 use Rattle.table.specs.declared.Side.{Side}
-use Rattle.table.specs.Places.{side_at}
 use Rattle.table.specs.Search.{total}
 use Rattle.table.specs.Ranks.{held_on, calls_on}
 use Rattle.image.specs.Image.{table_from}
@@ -12,9 +11,4 @@ abbrev pub left_on : Side → List ℕ → ℕ → ℕ
 left_on a s i = total (held_on a) i (drop i (table_from s).places)
 
 abbrev pub invariant-loop-i : goal.invariant-loop-i
-invariant-loop-i l =
-    (l.initial.i ≤ l.i) × (l.i ≤ l.end) × (l.calls ≤ l.i)
-    × (calls_on (table_from l.image) (side_at l.initial.i) ≡ l.calls + left_on (side_at l.initial.i) l.image l.i)
-
-abbrev pub decreases-loop-i : goal.decreases-loop-i
-decreases-loop-i l = l.end - l.i
+invariant-loop-i l = (l.calls ≤ l.i) × (calls_on (table_from l.image) l.fn.a ≡ l.calls + left_on l.fn.a l.image l.i)

@@ -5,12 +5,10 @@ use Rattle.laws.proofs.Bools.{not_both}
 use Rattle.laws.proofs.Lists.{below_none, below_more, below_get}
 use Rattle.table.specs.Places.{place_count}
 use Rattle.table.specs.Ranks.{rank_sound}
-use Rattle.table.proofs.MarkLaws.{entering_none}
 use Rattle.image.specs.Image.{table_from, places_sound}
 use Rattle.image.specs.Quick.{place_fits}
 use Rattle.image.proofs.PlaceLaws.{places_fit}
 use Rattle.image.proofs.Apart as apart
-use Rattle.image.proofs.Buckets.{entered_none}
 use Rattle.lent.proofs.sound.places_sound.Goals as goal
 
 -- an image that would not be sound if it passed the test does not pass
@@ -21,7 +19,7 @@ fails true h = absurd (h refl)
 pub loop-i-init : goal.loop-i-init
 loop-i-init c =
     let s = c.args.image.now in
-    (omega arith, below_none (place_fits s), entered_none s, entering_none (table_from s) _ refl)
+    (below_none (place_fits s), c.none-buckets.ensures s, c.none-marks.ensures)
 
 pub returns-then-not-place_fits : goal.returns-then-not-place_fits
 returns-then-not-place_fits c =
@@ -32,16 +30,15 @@ returns-then-not-place_fits c =
 pub loop-i-preserved : goal.loop-i-preserved
 loop-i-preserved c =
     let s = c.args.image.now in (
-      omega arith,
-      below_more (place_fits s) c.loop-i.i c.loop-i.invariant.1 (sym c.place_fits.ensures ∙ c.if-not-place_fits.false),
+      below_more (place_fits s) c.loop-i.i c.loop-i.invariant.0 (sym c.place_fits.ensures ∙ c.if-not-place_fits.false),
       c.enter.ensures.entered c.if-not-enter.false,
-      c.enter_rank.ensures.entered c.if-not-enter_rank.false,
+      c.enter-in-loop-i.ensures.entered c.if-not-enter-2.false,
     )
 
 pub returns : goal.returns
 returns c =
     let s = c.args.image.now in
     let past : c.loop-i.i ≡ place_count = omega arith in
-    let ranked = subst (λ (n : ℕ). below (rank_sound (table_from s)) n ≡ true) past c.loop-i.invariant.3.0 in
+    let ranked = subst (λ (n : ℕ). below (rank_sound (table_from s)) n ≡ true) past c.loop-i.invariant.2.1.0 in
     sym
-    (apart.places_sound_lem s (λ i h. below_get (place_fits s) c.loop-i.i c.loop-i.invariant.1 i (omega arith)) (λ m l. c.loop-i.invariant.2.apart m (omega arith)) ranked)
+    (apart.places_sound_lem s (λ i h. below_get (place_fits s) c.loop-i.i c.loop-i.invariant.0 i (omega arith)) (λ m l. c.loop-i.invariant.1.apart m (omega arith)) ranked)

@@ -1,8 +1,7 @@
 -- Each sum so far and the sum of what is left are the whole; a place adds at most 3, so no sum wraps.
-use Rattle.std.proofs.Common.{◌≡◌, ℕ, ◌+◌, ◌-◌, ◌*◌, ◌≤◌, List, drop}
+use Rattle.std.proofs.Common.{◌≡◌, ℕ, ◌+◌, ◌*◌, ◌≤◌, List, drop}
 use Rattle.table.specs.declared.Record.{Record}
 use Rattle.table.specs.declared.Side.TheVariants.{Position, Line}
-use Rattle.table.specs.Places.{place_count}
 use Rattle.table.specs.Search.{total}
 use Rattle.table.specs.Status.{free_on, waits_at, running_at}
 use Rattle.image.specs.Image.{table_from}
@@ -14,15 +13,11 @@ left f s i = total f i (drop i (table_from s).places)
 
 abbrev pub invariant-loop-i : goal.invariant-loop-i
 invariant-loop-i l =
-    (l.i ≤ place_count)
-    × (l.positions ≤ 3 * l.i)
-    × (l.lines ≤ 3 * l.i)
-    × (l.waiting ≤ 3 * l.i)
-    × (l.running ≤ 3 * l.i)
-    × (left (free_on Position) l.image 0 ≡ l.positions + left (free_on Position) l.image l.i)
-    × (left (free_on Line) l.image 0 ≡ l.lines + left (free_on Line) l.image l.i)
-    × (left waits_at l.image 0 ≡ l.waiting + left waits_at l.image l.i)
-    × (left running_at l.image 0 ≡ l.running + left running_at l.image l.i)
-
-abbrev pub decreases-loop-i : goal.decreases-loop-i
-decreases-loop-i l = place_count - l.i
+    (l.sums.positions ≤ 3 * l.i)
+    × (l.sums.lines ≤ 3 * l.i)
+    × (l.sums.waiting ≤ 3 * l.i)
+    × (l.sums.timers ≤ 3 * l.i)
+    × (left (free_on Position) l.image 0 ≡ l.sums.positions + left (free_on Position) l.image l.i)
+    × (left (free_on Line) l.image 0 ≡ l.sums.lines + left (free_on Line) l.image l.i)
+    × (left waits_at l.image 0 ≡ l.sums.waiting + left waits_at l.image l.i)
+    × (left running_at l.image 0 ≡ l.sums.timers + left running_at l.image l.i)

@@ -35,11 +35,11 @@ decides x y a b ha hb ox oy =
 pub returns-then-word : goal.returns-then-word
 returns-then-word c =
     let r = decides c.args.x.now c.args.y.now c.args.a c.args.b (search rules) (search rules) (λ j. search rules) (λ j. search rules) in
-    let second = sym (ap₂ eqb c.word.ensures c.word-2.ensures) ∙ ne_eqb _ _ c.if-word.true in
-    rw second at r
+    let second = sym (ap₂ eqb c.word.ensures c.word-2.ensures) ∙ eq-eqb _ _ c.if-word.true in
+    ap₂ eqb c.word-then-word.ensures c.word-then-word-2.ensures ∙ rw second at r
 
-pub returns : goal.returns
-returns c =
+pub returns-else-word : goal.returns-else-word
+returns-else-word c =
     let r = decides c.args.x.now c.args.y.now c.args.a c.args.b (search rules) (search rules) (λ j. search rules) (λ j. search rules) in
-    let second = sym (ap₂ eqb c.word.ensures c.word-2.ensures) ∙ eq-eqb _ _ c.if-word.false in
-    ap₂ eqb c.word-3.ensures c.word-4.ensures ∙ rw second at r
+    let second = sym (ap₂ eqb c.word.ensures c.word-2.ensures) ∙ ne_eqb _ _ c.if-word.false in
+    ne_eqb _ _ c.if-word.false ∙ rw second at r

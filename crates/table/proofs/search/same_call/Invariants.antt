@@ -5,6 +5,3 @@ use Rattle.table.proofs.search.same_call.Given as goal
 
 abbrev pub invariant-loop-i : goal.invariant-loop-i
 invariant-loop-i l = (l.i ≤ 16) × (same_call (drop l.i l.a) (drop l.i l.b) ≡ true)
-
-abbrev pub decreases-loop-i : goal.decreases-loop-i
-decreases-loop-i l = l.i

@@ -1,7 +1,0 @@
--- The room has as many octets as it is made of.
-use Rattle.std.proofs.Common.{ℕ, sym}
-use Rattle.std.proofs.lemmas.List.{length-replicate}
-use Rattle.echoline.proofs.main.Goals as goal
-
-pub slice_bounds-echo_input-end : goal.slice_bounds-echo_input-end
-slice_bounds-echo_input-end c = sym (length-replicate {A = ℕ} 1048576 0)

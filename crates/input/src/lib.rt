@@ -1,0 +1,62 @@
+// A text taken line by line, for the programs that read standard input whole.
+#![tactic(auto)]
+
+ghost use Rattle.std.specs.Prelude.{◌≡◌, ◌==◌, ℕ, List};
+ghost use Rattle.std.specs.List.{position};
+ghost use Rattle.std.specs.Iterator.{YieldsFirstRef, item_count};
+ghost use Rattle.input.specs.Lines.{lines_of};
+
+use std::marker::Model;
+
+// The most that a program reads of standard input; the rest is left.
+pub const INPUT_OCTETS: u64 = 1048576;
+
+// The lines of a text that are still to come.
+#[derive(Drop)]
+pub struct Lines<'a> {
+    rest: &'a [u8],
+}
+
+impl<'a> Model for Lines<'a> {
+    ghost Value = { List (List ℕ) };
+
+    ghost view = { λ s. lines_of s.rest.now };
+}
+
+impl<'a> Iterator for Lines<'a> {
+    type Item = &'a [u8];
+
+    ghost next_gives = { YieldsFirstRef (λ rest. rest) };
+
+    ghost remaining = { item_count (λ rest. rest) };
+
+    fn next(&mut self) -> Option<&'a [u8]> {
+        let text = self.rest;
+        if text.is_empty() {
+            return None;
+        }
+        match find_feed(text) {
+            Some(end) => {
+                self.rest = &text[end + 1..];
+                Some(&text[..end])
+            }
+            None => {
+                self.rest = &[];
+                Some(text)
+            }
+        }
+    }
+}
+
+// All lines of a text, for a loop that takes them one by one: a text is cut at each line feed, and a last line without one counts.
+pub fn each_line(text: &[u8]) -> Lines<'_>
+    ensures { result ≡ lines_of text.now }
+{
+    Lines { rest: text }
+}
+
+fn find_feed(text: &[u8]) -> Option<usize>
+    ensures { result ≡ position (λ octet. octet == 10) text.now }
+{
+    text.iter().position(|octet| *octet == b'\n')
+}

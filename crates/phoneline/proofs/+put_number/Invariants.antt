@@ -1,5 +1,0 @@
--- By the number, whose last digit is taken off.
-use Rattle.phoneline.proofs.+put_number.Given as goal
-
-abbrev pub decreases-put_number : goal.decreases-put_number
-decreases-put_number l = l.n

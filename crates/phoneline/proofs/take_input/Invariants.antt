@@ -1,6 +1,0 @@
--- What came lies in the room.
-use Rattle.std.proofs.Common.{length, ◌≤◌}
-use Rattle.phoneline.proofs.take_input.Given as goal
-
-abbrev pub invariant-loop : goal.invariant-loop
-invariant-loop g l = l.done ≤ length l.room
