@@ -1,4 +1,5 @@
 pub mod Rule
+pub mod Timer
 pub mod Message
 pub mod Refusal
 pub mod Turn

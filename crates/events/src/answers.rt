@@ -51,7 +51,8 @@ pub fn decline(e: Event, w: Refusal) -> Answer
     say(u8::from(w), w.message(k, e.connection))
 }
 
-// The answer with zeros everywhere but its number: to a line or an image that is refused.
+// The answer with zeros everywhere but its number: to a line or an image that is refused. The number is that of an error of another crate (`BadLine`,
+// `Unsound`), which this one does not know.
 pub fn only_number(number: u8) -> Answer
     ensures { result ≡ saying number None }
 {

@@ -8,6 +8,7 @@ pub mod message;
 pub mod refusal;
 pub mod rule;
 pub mod sought;
+mod timer;
 pub mod turn;
 
 ghost use Rattle.std.specs.Prelude.{◌≡◌};

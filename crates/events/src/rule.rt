@@ -25,6 +25,8 @@ pub enum Signal {
     Expiry,
 }
 
+// Written as `TryFrom<u8> for Rule` it is no shorter: `act` and `decline` take the rule of any kind and so would call `.ok()`, and only `sought_of`
+// has a refusal to give.
 pub(crate) fn rule_of(kind: u8) -> Option<Rule>
     ensures { result ≡ rule_of kind }
 {

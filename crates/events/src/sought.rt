@@ -1,10 +1,11 @@
 // What an event looks for in the table.
 
 ghost use Rattle.std.specs.Prelude.{◌≡◌};
-ghost use Rattle.events.specs.Sought.{sought_pickup, is_timer, sought_expiry, sought_on, sought};
+ghost use Rattle.events.specs.Sought.{sought_pickup, sought_on, sought};
 
 use crate::refusal::Refusal;
 use crate::rule::{Rule, Signal};
+use crate::timer::Timer;
 use crate::{Event, rule};
 use table::Side;
 
@@ -29,28 +30,12 @@ fn by_choice(choice: u8) -> Result<Sought, Refusal>
     }
 }
 
-fn is_timer(n: u8) -> bool
-    ensures { result ≡ is_timer n }
-{
-    matches!(n, 3 | 6 | 9)
-}
-
-fn by_timer(timer: u8) -> Result<Sought, Refusal>
-    ensures { result ≡ sought_expiry timer }
-{
-    if is_timer(timer) {
-        Ok(Sought::Held)
-    } else {
-        Err(Refusal::ChoiceOrTimer)
-    }
-}
-
 fn by_signal(s: Signal, e: Event) -> Result<Sought, Refusal>
     ensures { result ≡ sought_on s e }
 {
     match s {
         Signal::LocalPickup | Signal::PickRequest => by_choice(e.choice),
-        Signal::Expiry => by_timer(e.timer),
+        Signal::Expiry => Timer::try_from(e.timer).map(|_| Sought::Held),
         _ => Ok(Sought::Held),
     }
 }

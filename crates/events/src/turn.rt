@@ -1,16 +1,16 @@
 // What an event does at one place: H.450.5, 7.3 and 7.5. The outcome says only what changes.
 
 ghost use Rattle.std.specs.Prelude.{◌≡◌};
-ghost use Rattle.table.specs.Timers.{timer_set};
 ghost use Rattle.events.specs.Turn.{stage_by, stage_of, state_at, connection_at, held_record, greeting, up, picked_up, is_outstanding, if_outstanding, resulted, failed, to_picker, released, answered, runs, timed_out, expired, turn_on, turn};
 
 use crate::Event;
 use crate::message::{ErrorValue, Message};
 use crate::refusal::Refusal;
 use crate::rule::{Rule, Signal};
+use crate::timer::Timer;
 use table::{Call, Connection, Invoke, Record, Side, State, timers};
 
-// How far the pickup of a held call is.
+// How far the pickup of a held call is. It goes without the count, and a record without its side: most of what takes the one asks nothing of the other.
 #[derive(Clone, Copy)]
 pub enum Stage {
     // State 1 or 2.
@@ -180,17 +180,6 @@ fn on_answered(s: State) -> Result<Outcome, Refusal>
     }
 }
 
-fn does_run(set: u8, timer: u8) -> bool
-    ensures { result ≡ runs set timer }
-{
-    match timer {
-        3 => set % 2 == 1,
-        6 => set / 2 % 2 == 1,
-        9 => set / 4 % 2 == 1,
-        _ => false,
-    }
-}
-
 // T3 or T6 ran out.
 fn on_time_out(s: Stage) -> Outcome
     ensures { result ≡ timed_out s }
@@ -198,23 +187,17 @@ fn on_time_out(s: Stage) -> Outcome
     Outcome::Freed(Some(Message::ReleaseComplete), to_picker(s))
 }
 
-// Kind 10.
-fn on_expiry(running: bool, timer: u8, s: Stage, n: Invoke) -> Result<Outcome, Refusal>
-    ensures { result ≡ expired running timer s n }
+// Kind 10, of a timer by its number, where this set of timers runs.
+fn on_expiry(set: u8, timer: u8, s: Stage, n: Invoke) -> Result<Outcome, Refusal>
+    ensures { result ≡ expired (runs set timer) timer s n }
 {
-    if !running {
-        Err(Refusal::TimerNotRunning)
-    } else if timer == 9 {
-        on_error(s, true, n)
-    } else {
-        Ok(on_time_out(s))
+    match Timer::try_from(timer) {
+        Ok(t) if t.is_in(set) => match t {
+            Timer::T3 | Timer::T6 => Ok(on_time_out(s)),
+            Timer::T9 => on_error(s, true, n),
+        },
+        _ => Err(Refusal::TimerNotRunning),
     }
-}
-
-fn is_running(a: Side, r: Record, timer: u8) -> bool
-    ensures { result ≡ runs (timer_set a r.state) timer }
-{
-    does_run(timers::timer_set(a, r.state), timer)
 }
 
 // A signal on a held call.
@@ -232,7 +215,7 @@ fn turn_on(k: Signal, a: Side, r: Record, e: Event) -> Result<Outcome, Refusal>
         Signal::PickupError => on_error(s, is_outstanding(r, e.invoke), n),
         Signal::ErrorInRelease | Signal::Release => Ok(on_release(s)),
         Signal::Answered => on_answered(r.state),
-        Signal::Expiry => on_expiry(is_running(a, r, e.timer), e.timer, s, n),
+        Signal::Expiry => on_expiry(timers::timer_set(a, r.state), e.timer, s, n),
     }
 }
 

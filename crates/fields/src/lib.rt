@@ -64,6 +64,7 @@ fn walk_fields(line: &[u8], description: &[Kind]) -> Result<Fields, Fault>
 {
     let mut values = [0u16; MOST_FIELDS];
     let mut call = [0u8; Table::CALL_OCTETS];
+    // `at` is where the next field starts: `walk` takes off one field at a time too, so that `split` would say no more.
     let mut at: usize = 0;
     for (i, kind) in description.iter().enumerate() {
         let field = parts::first_field(&line[at..]);

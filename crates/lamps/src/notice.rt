@@ -9,7 +9,8 @@ use crate::members::{Indication, Lamp, Lamps, Timer};
 use events::{Answer, Event};
 use table::{Call, Invoke, Place, State, Table};
 
-// What goes out to the members where they are asked: one request, the same to each, and the timers that stop and start, of members 1 to 8.
+// What goes out to the members where they are asked: one request, the same to each, and the timers that stop and start, of members 1 to 8 (two arrays, as a
+// host goes through them: D-48).
 #[derive(Clone, Copy)]
 pub struct Notice {
     pub asks: Indication,
@@ -33,7 +34,7 @@ fn starts_stay(kind: u8) -> bool
     kind == 1 || kind == 2
 }
 
-// After the event the place is free, or the call is handed over.
+// After the event the place is free, or the call is handed over. An answer has the state as a number (`Answer`, events).
 fn is_over(state: u8) -> bool
     ensures { result ≡ is_over state }
 {

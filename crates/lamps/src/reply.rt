@@ -12,6 +12,7 @@ use table::{Call, Invoke, Place, search};
 #[derive(Clone, Copy)]
 pub struct Reply {
     pub call: Call,
+    // any number: one that is no member's is refused by 31
     pub member: u8,
     pub invoke: Invoke,
     pub indication: Indication,

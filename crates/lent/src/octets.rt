@@ -1,4 +1,5 @@
-// The octets of an image, a run of them at a time, and those of one record.
+// The octets of an image, a run of them at a time, and those of one record. C lends an image as one run of octets: so it is read and written at an index,
+// here and in `words`.
 //
 // That an index is below `place_count` is asked for in a `requires`, here and in what stands on this. A type would be no plainer: each index comes from
 // a range or from a search, and would be wrapped at each, as in `(0..Table::PLACES).find(|i| holds_call(image, Index { value: *i }, call))`.

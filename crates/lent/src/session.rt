@@ -34,7 +34,8 @@ pub struct Fed {
 #[derive(Clone, Copy)]
 pub struct NoRoom;
 
-// Where the line from an index on ends: at the next line feed, or at the end of the piece.
+// Where the line from an index on ends: at the next line feed, or at the end of the piece. `input` looks for a feed too, but its lines end with the text:
+// the two share std's `position`, and neither crate stands on the other.
 fn find_feed(piece: &[u8], from: usize) -> usize
     requires { from ≤ length piece.now }
     ensures { (result ≡ from + until_feed (drop from piece.now)) × (result ≤ length piece.now) }
@@ -46,7 +47,8 @@ fn find_feed(piece: &[u8], from: usize) -> usize
         .unwrap_or(rest.len())
 }
 
-// Answers a line at the image. Whether it is one of a sound table was found out before, and no line changes that.
+// Answers a line at the image. Whether it is one of a sound table was found out before, and no line changes that: a truth value beside the image is all that
+// the three functions hand on, and a type would be no plainer.
 fn answer_at(sound: bool, image: &mut [u8; IMAGE_OCTETS], line: &[u8]) -> Answer
     requires { sound ≡ is_sound_image image.old }
     ensures { AnswersKnown sound image.old line.now result image.new }
@@ -106,6 +108,7 @@ pub fn feed(mut s: Session, piece: &[u8], out: &mut [u8]) -> Result<Fed, NoRoom>
     let sound = sound::places_sound(&s.image);
     let mut written: usize = 0;
     let mut i: usize = 0;
+    // No iterator is plainer: a turn begins behind the feed that the one before it found, and what has no feed is kept.
     loop {
         let end = s.keep(piece, i);
         if end == piece.len() {

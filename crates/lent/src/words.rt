@@ -8,6 +8,7 @@ ghost use Rattle.image.specs.Quick.{run_at};
 
 use crate::octets;
 
+// Of two widths, a line each: the types of the results differ.
 pub(crate) fn quad(octets: &[u8], at: usize) -> u32
     requires { at + 4 ≤ length octets.now }
     ensures { result ≡ run_at 4 octets.now at }
@@ -23,7 +24,8 @@ pub(crate) fn word(octets: &[u8], at: usize) -> u64
 }
 
 // Is the call at one index the call at another? From the far end, as in `table::search`: the last eight octets, and then the first eight. By the
-// function there, octet by octet, `park_step` takes 8,137 instructions and not 7,038 (96 random calls), and 148,149 and not 61,292 (against our hash).
+// function there, octet by octet, `park_step` takes 8,137 instructions and not 7,038 (96 random calls). With the function there in two words of an array and
+// a call of it on runs of sixteen octets here, both prove, but `parkline` takes 43.5 M instructions and not 41.7 M (24 calls), where it took 42.3 M before.
 pub(crate) fn same_call(x: &[u8], a: usize, y: &[u8], b: usize) -> bool
     requires { (a + call_octets ≤ length x.now) × (b + call_octets ≤ length y.now) }
     ensures { result ≡ same_call (take call_octets (drop a x.now)) (take call_octets (drop b y.now)) }

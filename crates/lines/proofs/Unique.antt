@@ -8,6 +8,7 @@ use Rattle.lines.proofs.read_event.Reads as read-event
 use Rattle.lines.proofs.event_said.Reads as event-said
 use Rattle.lines.proofs.bad_field.Reads as bad-field
 use Rattle.lines.proofs.read_answer.Reads as read_answer
+use Rattle.lines.proofs.answer_said.Reads as answer-said
 use Rattle.lines.proofs.event_length.Reads as event-length
 use Rattle.lines.proofs.write_event.Reads as write-event
 use Rattle.lines.proofs.answer_length.Reads as answer-length
@@ -30,6 +31,9 @@ bad_field_decided κ a x y d e p q = p ∙ sym q
 
 pub read_answer_decided : Decides read_answer.Post
 read_answer_decided κ a x y d e p q = p ∙ sym q
+
+pub answer_said_decided : Decides answer-said.Post
+answer_said_decided κ a x y d e p q = p ∙ sym q
 
 pub event_length_decided : Decides event-length.Post
 event_length_decided κ a x y d e p q = p ∙ sym q

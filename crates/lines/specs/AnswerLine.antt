@@ -80,6 +80,10 @@ abbrev pub answer_or_zeros : Option Answer → Answer
 answer_or_zeros (Some a) = a
 answer_or_zeros None = no_answer
 
+-- what a line says: a line that is not the fourteen fields has the answer of all zeros
+unfoldable pub answer_said : List ℕ → Answer
+answer_said s = answer_or_zeros (read_answer s)
+
 -- ---- how an answer is written
 
 -- the fourteen fields

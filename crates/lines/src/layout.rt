@@ -13,6 +13,11 @@ use events::{Answer, Event};
 use fields::{Fields, Kind};
 use table::{Connection, Invoke, Place};
 
+// The ranges of numbers.
+const OCTET: Kind = Kind::Number(255);
+
+const WORD: Kind = Kind::Number(65535);
+
 pub trait Layout: Copy {
     ghost LONGEST: { ℕ };
 
@@ -54,15 +59,7 @@ impl Layout for Event {
     const LONGEST: u8 = 62;
 
     fn kinds() -> &'static [Kind] {
-        &[
-            Kind::Number(255),
-            Kind::Call,
-            Kind::Number(65535),
-            Kind::Number(255),
-            Kind::Number(65535),
-            Kind::Number(65535),
-            Kind::Number(255),
-        ]
+        &[OCTET, Kind::Call, WORD, OCTET, WORD, WORD, OCTET]
     }
 
     fn to_fields(self) -> Fields {
@@ -119,20 +116,20 @@ impl Layout for Answer {
 
     fn kinds() -> &'static [Kind] {
         &[
-            Kind::Number(255),
+            OCTET,
             Kind::Call,
-            Kind::Number(255),
-            Kind::Number(255),
-            Kind::Number(255),
-            Kind::Number(65535),
-            Kind::Number(65535),
-            Kind::Number(255),
-            Kind::Number(255),
-            Kind::Number(255),
-            Kind::Number(255),
-            Kind::Number(65535),
-            Kind::Number(65535),
-            Kind::Number(255),
+            OCTET,
+            OCTET,
+            OCTET,
+            WORD,
+            WORD,
+            OCTET,
+            OCTET,
+            OCTET,
+            OCTET,
+            WORD,
+            WORD,
+            OCTET,
         ]
     }
 

@@ -1,5 +1,5 @@
 // Event lines and answer lines as octets. Each is a line of fields by its description (`fields`), and an event or an answer is laid out in the
-// values of its fields and taken from them. What a line means is defined in specs/, from document 01's "Lines, image, status" and refusals
+// values of its fields and taken from them (`layout`). What a line means is defined in specs/, from document 01's "Lines, image, status" and refusals
 // 21 to 24.
 #![tactic(auto)]
 
@@ -9,7 +9,7 @@ ghost use Rattle.std.specs.Prelude.{◌≡◌, length};
 ghost use Rattle.fields.specs.Line.{line_of, Writes};
 ghost use Rattle.lines.specs.Layout.{read_by};
 ghost use Rattle.lines.specs.EventLine.{bad_line, refusal_number, read_line, event_said, bad_field, event_line};
-ghost use Rattle.lines.specs.AnswerLine.{read_answer, answer_line};
+ghost use Rattle.lines.specs.AnswerLine.{read_answer, answer_said, answer_line};
 
 use events::{Answer, Event};
 use fields::Fault;
@@ -104,6 +104,17 @@ pub fn read_answer(line: &[u8]) -> Option<Answer>
     ensures { result ≡ read_answer line.now }
 {
     read(line).ok()
+}
+
+// The answer that a line says; a line that is not the fourteen fields has that of all zeros.
+#[tactic(auto, unfolding(crate::specs::AnswerLine::answer_said))]
+pub fn answer_said(line: &[u8]) -> Answer
+    ensures { result ≡ answer_said line.now }
+{
+    match read_answer(line) {
+        Some(a) => a,
+        None => Answer::default(),
+    }
 }
 
 // How many octets the line of an event has.

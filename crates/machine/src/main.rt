@@ -57,6 +57,7 @@ impl<T: fmt::Display> fmt::Display for Column<T> {
 struct Row {
     side: Side,
     state: State,
+    // a number, as an event has it
     kind: u8,
     reply: Option<Reply>,
     timer: Option<u8>,

@@ -196,7 +196,7 @@ impl Phone for parked::State {
     }
 }
 
-// A column of what is printed: a dash where there is nothing.
+// A column of what is printed: a dash where there is nothing. Each type that it holds is of another crate, so that Display is written for the column.
 #[derive(Clone, Copy)]
 struct Column<T>(Option<T>);
 
@@ -375,6 +375,7 @@ impl Phones {
 }
 
 fn main(rt: HostRuntime) -> io::Result<()> {
+    // what std has for it, in each program for tests
     let mut text = Vec::new(rt.alloc());
     let end = rt.reader().take(INPUT_OCTETS).read_to_end(&mut text);
     let mut phones = Phones::IDLE;

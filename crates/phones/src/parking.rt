@@ -1,4 +1,4 @@
-// The parking endpoint (clause 7.1) as it runs: `parking_of` of `clauses`.
+// The parking endpoint (clause 7.1) as it runs: `parking_of` of `clauses`. Its `step_at` and that of `parked` stay two: each runs a table of its own.
 
 ghost use Rattle.std.specs.Prelude.{◌≡◌};
 ghost use Rattle.clauses.specs.Parking.{parking_of};

@@ -126,7 +126,7 @@ impl Side {
         }
     }
 
-    // The row of this side in the timer table.
+    // The row of this side in the timer table. It is no conversion by `From`: no paper gives the sides these numbers.
     pub fn index(self) -> u8
         ensures { result ≡ side_index self }
     {
@@ -183,7 +183,7 @@ impl Place {
         self.side() == Some(a)
     }
 
-    // The place at an index, or 0, the number of no place, past the table.
+    // The place at an index, or 0, the number of no place, past the table: it cannot fail (`place_at`).
     pub fn at(i: usize) -> Place
         ensures { result ≡ place_at i }
     {
