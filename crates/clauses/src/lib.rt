@@ -36,9 +36,9 @@ pub type Decision = Result<(), ErrorValue>;
 // A timer of clause 10.4.
 #[derive(Clone, Copy, PartialEq, Eq, Debug)]
 pub enum Timer {
-    T1,
-    T2,
-    T10,
+    T1 = 1,
+    T2 = 2,
+    T10 = 10,
 }
 
 // What an endpoint sends. The held call is the parked one, to the parked-to endpoint.
@@ -125,11 +125,7 @@ impl From<Timer> for u8 {
     ghost from_gives = { λ t n. n ≡ timer_number t };
 
     fn from(timer: Timer) -> u8 {
-        match timer {
-            Timer::T1 => 1,
-            Timer::T2 => 2,
-            Timer::T10 => 10,
-        }
+        timer as u8
     }
 }
 

@@ -10,7 +10,8 @@ use crate::rule::{Rule, Signal};
 use crate::timer::Timer;
 use table::{Call, Connection, Invoke, Record, Side, State, timers};
 
-// How far the pickup of a held call is. It goes without the count, and a record without its side: most of what takes the one asks nothing of the other.
+// How far the pickup of a held call is. It goes without the count, and a record without its side or its event: most of
+// what takes the one asks nothing of the other, and a struct would be no plainer.
 #[derive(Clone, Copy)]
 pub enum Stage {
     // State 1 or 2.

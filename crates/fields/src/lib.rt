@@ -148,6 +148,7 @@ fn put_fields(out: &mut [u8], description: &[Kind], fields: Fields) -> usize
     let Some((last, rest)) = description.split_last() else {
         return 0;
     };
+    // where the next field starts, as in `walk_fields`
     let mut p: usize = 0;
     for (i, kind) in rest.iter().enumerate() {
         p += put_field(&mut out[p..], *kind, values[i], call);
@@ -158,7 +159,8 @@ fn put_fields(out: &mut [u8], description: &[Kind], fields: Fields) -> usize
 }
 
 // Writes a line at the front of the buffer, and gives its length; in a buffer that is too short it writes nothing, and gives 0. Octets
-// beyond the line stay. 0, and no None, for nothing written: C gets this count of `park_step` as it is.
+// beyond the line stay. It is no Option, since it could not fail before
+// (`Writes`).
 #[tactic(auto, using(crate::proofs::Texts::writing))]
 pub fn write_fields(out: &mut [u8], description: &[Kind], fields: Fields) -> usize
     ensures { Writes out.old (line_of description.now fields.values fields.call) result out.new }

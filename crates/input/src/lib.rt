@@ -55,6 +55,7 @@ pub fn each_line(text: &[u8]) -> Lines<'_>
     Lines { rest: text }
 }
 
+// `lent::session` looks for a feed too, in a piece that may end in mid-line: the two share std's `position`.
 fn find_feed(text: &[u8]) -> Option<usize>
     ensures { result ≡ position (λ octet. octet == 10) text.now }
 {

@@ -149,7 +149,7 @@ impl<W: Write + Drop> Session<W> {
 }
 
 fn main(rt: HostRuntime) -> io::Result<()> {
-    // what std has for it, in each program for tests
+    // two calls of std: a function for them would give back both the text and the error, and be no plainer
     let mut text = Vec::new(rt.alloc());
     let end = rt.reader().take(INPUT_OCTETS).read_to_end(&mut text);
     let mut session = Session {

@@ -27,7 +27,8 @@ pub struct Lit {
     pub notice: Option<Notice>,
 }
 
-// A park or an alert, by the paper's numbers of the kinds, which an event has (`Event`).
+// A park or an alert, by the paper's numbers of the kinds, which an event has (`Event`). The rule of a kind would be no plainer: it is the own of `events`,
+// and two numbers are asked for.
 fn starts_stay(kind: u8) -> bool
     ensures { result ≡ starts_stay kind }
 {

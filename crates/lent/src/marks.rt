@@ -16,7 +16,7 @@ use table::Side;
 pub(crate) struct Marks {
     // how many calls either side has
     calls: Calls,
-    // 256 octets for each side: 1 where a rank has its mark. They are numbers and not truth values, as in the definition (`with_mark`, table).
+    // 256 octets for each side: 1 where a rank has its mark. Truth values would be no plainer: `!` for `== 0`.
     marked: [u8; 512],
 }
 

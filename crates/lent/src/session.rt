@@ -34,6 +34,8 @@ pub struct Fed {
 #[derive(Clone, Copy)]
 pub struct NoRoom;
 
+// A piece, and the buffer of the answers, go with an index, since `feed` goes on behind what was done: two slices that grow shorter would be no plainer.
+//
 // Where the line from an index on ends: at the next line feed, or at the end of the piece. `input` looks for a feed too, but its lines end with the text:
 // the two share std's `position`, and neither crate stands on the other.
 fn find_feed(piece: &[u8], from: usize) -> usize

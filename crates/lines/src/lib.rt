@@ -87,7 +87,7 @@ pub fn event_said(line: &[u8]) -> Event
     read_event(line).unwrap_or_default()
 }
 
-// The first bad field of a line, 1 to 7, or 0 where no single field is to blame: the line reads, or 21 or 22 refuses it.
+// The first bad field of a line, 1 to 7, or 0 where no single field is to blame, as C gets it of `park_bad_field`: the line reads, or 21 or 22 refuses it.
 #[tactic(auto, unfolding(crate::specs::EventLine::bad_field, crate::specs::EventLine::reading))]
 pub fn bad_field(line: &[u8]) -> u8
     ensures { result ≡ bad_field line.now }

@@ -375,7 +375,7 @@ impl Phones {
 }
 
 fn main(rt: HostRuntime) -> io::Result<()> {
-    // what std has for it, in each program for tests
+    // two calls of std: a function for them would give back both the text and the error, and be no plainer
     let mut text = Vec::new(rt.alloc());
     let end = rt.reader().take(INPUT_OCTETS).read_to_end(&mut text);
     let mut phones = Phones::IDLE;

@@ -85,7 +85,8 @@ impl From<Unsound> for u8 {
 }
 
 impl State {
-    // The state with a number. A number that is none's is looked at first, and gives the last: so this is no TryFrom (`state_of`).
+    // The state with a number. A number that is none's is looked at first, and gives the last. A From would read as if each octet were a state's number, and a
+    // TryFrom could fail, where `state_of` cannot.
     pub fn of(n: u8) -> State
         ensures { result ≡ state_of n }
     {
