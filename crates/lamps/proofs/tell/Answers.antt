@@ -1,10 +1,9 @@
 -- The step is the table's own; the place of an accepted event is one of the table's (`accepted_inside`). That the arrays have their lengths, which a
 -- search does not reach here, is taken from what is known of the argument's type.
-use Rattle.std.proofs.Common.{◌≡◌, length, eq-eqb, ne_eqb}
+use Rattle.std.proofs.Common.{◌≡◌, length}
 use Rattle.table.specs.Places.{place_count}
 use Rattle.lamps.proofs.Accepted.{accepted_inside}
 use Rattle.lamps.proofs.tell.Goals as goal
-use Rattle.lamps.proofs.tell.Goals.{then-answer-eq0, else-answer-eq0}
 
 pub notify-lit-requires : goal.notify-lit-requires
 notify-lit-requires c =
@@ -12,10 +11,3 @@ notify-lit-requires c =
     let size : length t.places ≡ place_count = c.well_formed.0.1.1.0.1.1.0.1.0.1 in
     let ranks : length t.ranks ≡ place_count = c.well_formed.0.1.1.0.1.1.1.0.1.0.1 in
     accepted_inside t c.args.e c.single_step-done.result (size, ranks) c.single_step-done.ensures c.if-answer-eq0.true
-
-pub returns : goal.returns
-returns c =
-    elim c.if-answer-eq0.branch [
-      | then-answer-eq0 w ↦ rw (w.lit-is, w.notify-lit.ensures, ← c.single_step-done.ensures, eq-eqb _ 0 w.if-answer-eq0.true)
-      | else-answer-eq0 w ↦ rw (w.lit-is, w.leave-lit.ensures, ← c.single_step-done.ensures, ne_eqb _ 0 w.if-answer-eq0.false)
-    ]
