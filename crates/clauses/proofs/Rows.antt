@@ -6,13 +6,13 @@ use mathlib.Core.Bool.{Bool, true, false, cond, true≢false}
 use Prim.Native.Nat.{ℕ}
 use borrow.Author.Tests.{eqb-true}
 use lib.Dec.{eqb}
-use Rattle.std.specs.Prelude.{Option, Some, None, Result, Err, is_ok}
+use Rattle.std.specs.Prelude.{Option, Some, None, Result, Ok, Err, is_ok}
 use Rattle.timers.specs.Timers.{runs_after}
 use Rattle.timers.proofs.Timers.{Laws, runs_where_named, expiry_where_runs, expiry_stops}
 use Rattle.clauses.specs.declared.Timer.{Timer}
 use Rattle.clauses.specs.declared.Answer.{Answer}
 use Rattle.clauses.specs.declared.NoStep.{NoStep}
-use Rattle.clauses.specs.Answer.{timer_number, refusal}
+use Rattle.clauses.specs.Answer.{timer_number, refusal, answer_number}
 use Rattle.clauses.specs.Phone.{Phone, is_timer, started_by, stopped_by, timed, Promises}
 
 none_is : (t : Timer) → is_timer None t ≡ false
@@ -26,6 +26,14 @@ as_expired (Some y) x t h = ap (λ (n : ℕ). eqb (timer_number y) n) (sym (eqb-
 -- a refusal is not done
 pub never : {A : Type 0} → false ≡ true → A
 never h = absurd (true≢false (sym h))
+
+number_of_done : (a : Result Answer NoStep) → is_ok a ≡ true → answer_number a ≡ 0
+number_of_done (Ok a) good = refl
+number_of_done (Err e) good = never good
+
+done_is_0 : (a : Result Answer NoStep) → is_ok a ≡ eqb (answer_number a) 0
+done_is_0 (Ok a) = refl
+done_is_0 (Err e) = refl
 
 -- stopped, and then started
 stop_start : (x y : Bool) → cond x true (cond y false y) ≡ x
@@ -49,12 +57,12 @@ module _ (p : Phone) where
     not_both : {A : Type 0} (s : State) (e : Event) → is_ok (answer s e) ≡ true → is_ok (answer s e) ≡ false → A
     not_both s e good bad = absurd (true≢false (sym good ∙ bad))
 
-    refused_keeps : (s : State) (e : Event) → is_ok (answer s e) ≡ false → (next s e ≡ s) × (answer s e ≡ Err refusal)
+    refused_keeps : (s : State) (e : Event) → (answer_number (answer s e) ≡ 0 → ⊥) → (next s e ≡ s) × (answer s e ≡ Err refusal)
     refused_keeps s e bad = by (course s e)
       where
         by : Course s e → (next s e ≡ s) × (answer s e ≡ Err refusal)
         by (refused stays is) = (stays, is)
-        by (done good off on) = not_both s e good bad
+        by (done good off on) = absurd (bad (number_of_done (answer s e) good))
 
     at_event : (s : State) (e : Event) (t : Timer) → runs_after (timed p) (is_timer (timer s) t) s e t ≡ is_timer (timer (next s e)) t
     at_event s e t = by (course s e)
@@ -99,6 +107,7 @@ module _ (p : Phone) where
     pub promises : Promises p
     promises = record {
       refused_keeps = refused_keeps;
+      done_is_0 = λ s e. done_is_0 (answer s e);
       runs_where_named = runs_where_named (timed p) laws;
       expiry_where_runs = expiry_where_runs (timed p) laws;
       expiry_stops = expiry_stops (timed p) laws;

@@ -1,5 +1,5 @@
 -- Error values, the numbers of the timers, the four sorts of answer that the clause tables of the phones are written with, and what a line of them gives.
-use Rattle.std.specs.Prelude.{cond, ℕ, eqb, Option, Some, None, Ok, Err}
+use Rattle.std.specs.Prelude.{cond, ℕ, eqb, Option, Some, None, Result, Ok, Err}
 use Rattle.clauses.specs.declared.ErrorValue.{ErrorValue}
 use Rattle.clauses.specs.declared.Failure.{Failure}
 use Rattle.clauses.specs.declared.Failure.TheVariants.{ReturnError, Reject}
@@ -61,6 +61,11 @@ refusal = record {}
 -- document 02, Q-7, "33 the clause names no step for that event in that state"
 abbrev pub no_step_number : ℕ
 no_step_number = 33
+
+-- the number of an answer: 0 where the event is done
+abbrev pub answer_number : Result Answer NoStep → ℕ
+answer_number (Ok a) = 0
+answer_number (Err e) = no_step_number
 
 -- there the state stays, and there is no answer: nothing is sent, started, stopped or told
 abbrev pub no_step : {S : Type 0} → S → Step S

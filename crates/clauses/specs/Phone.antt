@@ -5,7 +5,7 @@ use Rattle.timers.specs.Timers.{TimedMachine, RunsWhereNamed, ExpiryWhereRuns, E
 use Rattle.clauses.specs.declared.Timer.{Timer}
 use Rattle.clauses.specs.declared.Answer.{Answer}
 use Rattle.clauses.specs.declared.NoStep.{NoStep}
-use Rattle.clauses.specs.Answer.{timer_number, refusal}
+use Rattle.clauses.specs.Answer.{timer_number, refusal, answer_number}
 
 -- A phone: a machine of one call.
 pub record Phone : Type 1 where
@@ -55,8 +55,10 @@ timed p = record {
 -- `parking_keeps`: of the parking endpoint, and `parked_keeps` of the parked one. Which events are done in which states is not said here: that is the
 -- clause table.
 pub record Promises (p : Phone) : Type 0 where
-  -- an event that is not done is refused, and the state stays; a refusal has nothing to send, start, stop or tell
-  pub refused_keeps : (s : p.State) (e : p.Event) → is_ok (p.answer s e) ≡ false → (p.next s e ≡ s) × (p.answer s e ≡ Err refusal)
+  -- an event that is not done is answered by 33, and the state stays; a refusal has nothing to send, start, stop or tell
+  pub refused_keeps : (s : p.State) (e : p.Event) → (answer_number (p.answer s e) ≡ 0 → ⊥) → (p.next s e ≡ s) × (p.answer s e ≡ Err refusal)
+  -- the number of a refusal is not that of an event that is done
+  pub done_is_0 : (s : p.State) (e : p.Event) → is_ok (p.answer s e) ≡ eqb (answer_number (p.answer s e)) 0
   -- Q-7: "a timer runs exactly in the state that names it"
   pub runs_where_named : RunsWhereNamed (timed p)
   -- an expiry is accepted exactly where its timer runs, and then stops it

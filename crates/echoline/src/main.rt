@@ -2,7 +2,7 @@
 // an answer as that answer's line, and of any other line the refusal is printed that it has as an event line.
 #![tactic(auto)]
 
-use input::INPUT_OCTETS;
+use input::{INPUT_OCTETS, ROOM_OCTETS};
 use std::io;
 use std::io::Read;
 
@@ -46,7 +46,7 @@ fn echo(rt: &impl Print, line: &[u8]) -> io::Result<()> {
 
 fn main(rt: HostRuntime) -> io::Result<()> {
     // two calls of std: a function for them would give back both the text and the error, and be no plainer
-    let mut text = Vec::new(rt.alloc());
+    let mut text = Vec::with_capacity(rt.alloc(), ROOM_OCTETS)?;
     let end = rt.reader().take(INPUT_OCTETS).read_to_end(&mut text);
     for line in input::each_line(&text) {
         echo(&rt, line)?;

@@ -35,7 +35,7 @@ pub tabs_end : (s : List ℕ) (i : ℕ) → length s ≤ i → tabs (drop i s) �
 tabs_end s i h = rw (at_end s i h)
 
 -- the part before the first tab, and the part after it, as cuts of the slice
-cut_before : (s : List ℕ) → take (length (before s)) s ≡ before s
+pub cut_before : (s : List ℕ) → take (length (before s)) s ≡ before s
 cut_before [] = refl
 cut_before (x ∷ s) = go (eqb x 9) (cut_before s)
   where
@@ -44,7 +44,7 @@ cut_before (x ∷ s) = go (eqb x 9) (cut_before s)
     go true ih = refl
     go false ih = ap (λ (l : List ℕ). x ∷ l) ih
 
-before_within : (s : List ℕ) → length (before s) ≤ length s
+pub before_within : (s : List ℕ) → length (before s) ≤ length s
 before_within [] = omega arith
 before_within (x ∷ s) = go (eqb x 9) (before_within s)
   where

@@ -1,10 +1,7 @@
 -- Of every public function: two results that meet its contract are equal; of a slice that is given back, its octets, and of a buffer that
 -- is written, also what stands in it at the end. Each contract is an equation with a definition.
-use mathlib.Core.Path.{◌≡◌, sym, ◌∙◌}
-use mathlib.Core.Bool.{Bool}
-use Rattle.std.specs.Prelude.{Result, is_ok}
-use Rattle.fields.specs.declared.Fault.{Fault}
-use Rattle.fields.specs.declared.Fields.{Fields}
+use mathlib.Core.Path.{sym, ap, ◌∙◌}
+use Rattle.std.specs.Prelude.{is_ok}
 use Rattle.laws.specs.Decides.{Decides, DecidesSeen, DecidesMemory}
 use Rattle.fields.proofs.parts.first_field.Reads as first_field
 use Rattle.fields.proofs.numbers.read_number.Reads as read_number
@@ -34,8 +31,8 @@ pub read_fields_decided : Decides read-fields.Post
 read_fields_decided κ a x y d e p q = p ∙ sym q
 
 -- and whether there is a fault
-pub is_none_decided : (r : Result Fields Fault) (x y : Bool) → x ≡ is_ok r → y ≡ is_ok r → x ≡ y
-is_none_decided r x y p q = p ∙ sym q
+pub is_none_decided : DecidesSeen read-fields.Post (λ κ x. is_ok x)
+is_none_decided κ a x y d e p q = ap (λ r. is_ok r) (p ∙ sym q)
 
 pub write_fields_decided : DecidesMemory write-fields.Post (λ κ d. d.0.now)
 write_fields_decided κ a x y d e p q = (p.0 ∙ sym q.0, p.1 ∙ sym q.1)

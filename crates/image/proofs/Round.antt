@@ -2,7 +2,7 @@
 -- image, one record or one rank written is one that is set in the table. An image is taken apart at a place (`all_split`), and what stands there is
 -- read from its start.
 use mathlib.Core.Path.{◌≡◌, refl, sym, ap, ap₂, ◌∙◌}
-use mathlib.Core.Bool.{Bool, cond, ◌&&◌}
+use mathlib.Core.Bool.{Bool, true, false, cond, ◌&&◌}
 use mathlib.Core.List.{List, [], ◌∷◌, ◌++◌, append_assoc}
 use Prim.Native.Nat.{ℕ, zero, suc, ◌+◌, ◌*◌, ◌/◌, ◌%◌, ◌≤◌, ◌<◌}
 use native.Mathlib.Nat.{zero-add}
@@ -18,11 +18,12 @@ use Rattle.laws.proofs.Runs.{sets_over}
 use Rattle.table.specs.declared.Record.{Record}
 use Rattle.table.specs.declared.Table.{Table}
 use Rattle.table.specs.Places.{state_number, is_state, state_of, place_count, call_octets, blank, record_at, rank_at}
-use Rattle.table.specs.Sound.{is_sound}
+use Rattle.table.specs.Sound.{is_sound, number_said}
+use Rattle.table.specs.Status.{status_of}
 use Rattle.table.proofs.States.{state_below, state_back, number_back}
 use Rattle.std.specs.Prelude.{Result, Ok, Err}
 use Rattle.table.specs.declared.Unsound.{Unsound}
-use Rattle.image.specs.Image.{connection_offset, count_offset, record_octets, place_octets, image_octets, place_start, rank_index, Fit, pair_of, octets_of, octets_of_all, image_of, pair_at, record_from, state_octet, record_in, rank_octet, table_from, states_fit, places_sound, is_sound_image}
+use Rattle.image.specs.Image.{connection_offset, count_offset, record_octets, place_octets, image_octets, place_start, rank_index, Fit, pair_of, octets_of, octets_of_all, image_of, pair_at, record_from, state_octet, record_in, rank_octet, table_from, states_fit, places_sound, is_sound_image, is_written, written_number}
 use Rattle.image.specs.Round.{Octets, ImageLength, TableReadsBack, ImageReadsBack, ImageTested, OneImage, TableReadFits, ImageWritesBack}
 use Rattle.image.proofs.Fills.{Calls, length_octets, length_all, front, back, all_with, all_split, front_long}
 
@@ -253,3 +254,14 @@ image_written_back s o h =
     let long = eqb-true (length s) image_octets (and_left (eqb (length s) image_octets) (places_sound s) h) in
     let fit = and_left (states_fit s) _ (and_right (eqb (length s) image_octets) (places_sound s) h) in
     all_back s o place_count 0 long (λ k l. ltb-true (state_octet s k) 6 (below_get (λ i. is_state (state_octet s i)) place_count fit k (omega arith)))
+
+-- THE NUMBERS OF THE TWO QUERIES ON A TABLE: 0, or the paper's 25
+said_by : {A : Type 0} (b : Bool) (x : A) (w : Unsound) → number_said (cond b (Ok x) (Err w)) ≡ cond b 0 25
+said_by true x w = refl
+said_by false x w = refl
+
+pub numbers_written : (t : Table) (buffer : List ℕ) → written_number t buffer ≡ cond (is_written t buffer) 0 25
+numbers_written t buffer = said_by (is_written t buffer) tt (record {})
+
+pub status_numbered : (t : Table) → number_said (status_of t) ≡ cond (is_sound t) 0 25
+status_numbered t = said_by (is_sound t) _ (record {})

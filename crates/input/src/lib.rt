@@ -11,6 +11,10 @@ use std::marker::Model;
 // The most that a program reads of standard input; the rest is left.
 pub const INPUT_OCTETS: u64 = 1048576;
 
+// Room for that and one octet more: std's `read_to_end` asks for room before it finds that nothing is left to read, and with this never grows what it
+// reads into.
+pub const ROOM_OCTETS: usize = INPUT_OCTETS as usize + 1;
+
 // The lines of a text that are still to come.
 #[derive(Drop)]
 pub struct Lines<'a> {

@@ -11,7 +11,7 @@
 #![tactic(auto)]
 
 use events::{Answer, Event, answers};
-use input::INPUT_OCTETS;
+use input::{INPUT_OCTETS, ROOM_OCTETS};
 use lamps::members::{Gp, Indication, Lamps, Timer};
 use lamps::notice::Notice;
 use lamps::reply::{Reply, Settlement};
@@ -146,20 +146,27 @@ impl<W: Write + Drop> Session<W> {
             _ => self.take_event(line),
         }
     }
+
+    fn take_text(&mut self, text: &[u8]) -> io::Result<()> {
+        for line in input::each_line(text) {
+            self.take_line(line)?;
+        }
+        self.out.flush()
+    }
 }
 
 fn main(rt: HostRuntime) -> io::Result<()> {
     // two calls of std: a function for them would give back both the text and the error, and be no plainer
-    let mut text = Vec::new(rt.alloc());
+    let mut text = Vec::with_capacity(rt.alloc(), ROOM_OCTETS)?;
     let end = rt.reader().take(INPUT_OCTETS).read_to_end(&mut text);
     let mut session = Session {
         endpoint: Endpoint::empty(),
         out: BufWriter::with_capacity(rt.alloc(), BLOCK_OCTETS, io::writer(&rt))?,
     };
-    for line in input::each_line(&text) {
-        session.take_line(line)?;
-    }
-    session.out.flush()?;
+    let done = session.take_text(&text);
+    // a failed write is not tried again: what is left of the block goes, where dropping the writer would write it
+    let (_, _) = session.out.into_parts();
+    done?;
     end?;
     Ok(())
 }

@@ -1,6 +1,6 @@
 -- Which replies are accepted: 31, 32 and 0 say exactly what the request says of them, and a refusal changes nothing. The test that the code runs is the
 -- four facts (`named_of_test`, `test_of_named`).
-use Rattle.std.proofs.Common.{◌≡◌, ◌-◌, Bool, true, false, ◌&&◌, eqb, get_or, sym, refl, eq-eqb, eqb-true}
+use Rattle.std.proofs.Common.{◌≡◌, ℕ, ◌-◌, Bool, true, false, ◌&&◌, ◌⊎◌, cond, eqb, get_or, sym, refl, inl, inr, arith, eq-eqb, eqb-true}
 use Rattle.laws.proofs.Bools.{never, and_left, and_right, and_both, not_both}
 use Rattle.table.specs.Places.{place_at}
 use Rattle.table.specs.Search.{same_call}
@@ -9,9 +9,11 @@ use Rattle.lamps.specs.declared.members.Indication.{Indication}
 use Rattle.lamps.specs.declared.members.Indication.TheVariants.{On, Off}
 use Rattle.lamps.specs.declared.members.Lamp.{Lamp}
 use Rattle.lamps.specs.declared.reply.Reply.{Reply}
+use Rattle.lamps.specs.declared.reply.ReplyRefusal.{ReplyRefusal}
+use Rattle.lamps.specs.declared.reply.ReplyRefusal.TheVariants.{NoSuchMember, NotPending}
 use Rattle.lamps.specs.declared.reply.Settlement.{Settlement}
 use Rattle.lamps.specs.Members.{same_indication, timer_of, awaits, gp_in, lamp_at}
-use Rattle.lamps.specs.Reply.{same_request, is_pending, settled_of}
+use Rattle.lamps.specs.Reply.{same_request, is_pending, refusal_number, settled_of}
 use Rattle.lamps.specs.Promises.{Named, RepliesRight, AreRepliesRight}
 use Rattle.lamps.proofs.Settling.{no_member, none_pending, Settling, refuses, settles, settling}
 
@@ -71,6 +73,18 @@ module _ (r : Reply) (x : Lamp) where
 
 -- ---- THE REPLIES
 
+one_of_two : (n : ℕ) → cond (eqb n 31) true (eqb n 32) ≡ true → (n ≡ 31) ⊎ (n ≡ 32)
+one_of_two n h = by (eqb n 31) (eqb n 32) refl refl h
+  where
+    by : (a b : Bool) → eqb n 31 ≡ a → eqb n 32 ≡ b → cond a true b ≡ true → (n ≡ 31) ⊎ (n ≡ 32)
+    by true b p q h = inl (eqb-true n 31 p)
+    by false true p q h = inr (eqb-true n 32 q)
+    by false false p q h = never h
+
+no_other : (w : ReplyRefusal) → cond (eqb (refusal_number w) 31) true (eqb (refusal_number w) 32) ≡ true
+no_other NoSuchMember = refl
+no_other NotPending = refl
+
 pub replies_right : AreRepliesRight
 replies_right l r wide = by (settling l wide r) refl
   where
@@ -87,19 +101,19 @@ replies_right l r wide = by (settling l wide r) refl
               lowest = λ j w. not_named r (lamp_at l j) (x.first j w);
             },
           );
-      no_member = λ q. absurd (cc (rw is at q));
-      none_pending = λ q. absurd (cc (rw is at q));
+      no_member = λ q. absurd (let z : ◌≡◌ {A = ℕ} 0 31 = rw is at q in omega arith);
+      none_pending = λ q. absurd (let z : ◌≡◌ {A = ℕ} 0 32 = rw is at q in omega arith);
       else = λ w q. absurd (cc (rw is at q));
     }
     by (refuses (none_pending who none)) is = record {
       done = λ y q. absurd (cc (rw is at q));
-      no_member = λ q. absurd (cc (rw is at q));
+      no_member = λ q. absurd (let z : ◌≡◌ {A = ℕ} 32 31 = rw is at q in omega arith);
       none_pending = λ q. (who, λ j w. not_named r (lamp_at l j) (none j w));
-      else = λ w q. rw is;
+      else = λ w q. (one_of_two (refusal_number w) (no_other w), rw is);
     }
     by (refuses (no_member who)) is = record {
       done = λ y q. absurd (cc (rw is at q));
       no_member = λ q. who;
-      none_pending = λ q. absurd (cc (rw is at q));
-      else = λ w q. rw is;
+      none_pending = λ q. absurd (let z : ◌≡◌ {A = ℕ} 31 32 = rw is at q in omega arith);
+      else = λ w q. (one_of_two (refusal_number w) (no_other w), rw is);
     }

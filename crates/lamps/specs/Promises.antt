@@ -1,7 +1,7 @@
 -- What is promised of every run from the empty table: one page of statements, each proved under the name that stands beside it, in `proofs/`. The
 -- stays are those of demand 3 (crate `stays`), counted there. Every count is taken over the calls that pass a test, so that it is said of all calls
 -- together and of each call by itself.
-use Rattle.std.specs.Prelude.{◌≡◌, ℕ, ◌+◌, ◌%◌, ◌^◌, ◌<◌, Bool, true, false, cond, not, ◌&&◌, ◌||◌, List, [], ◌∷◌, length, Some, Ok, Err, ◌==◌, nat_eq}
+use Rattle.std.specs.Prelude.{◌≡◌, ℕ, ◌+◌, ◌%◌, ◌^◌, ◌<◌, Bool, true, false, cond, not, ◌&&◌, ◌||◌, ◌⊎◌, List, [], ◌∷◌, length, Some, Ok, Err, ◌==◌, nat_eq}
 use Rattle.table.specs.declared.Table.{Table}
 use Rattle.table.specs.Places.{is_free, place_at, no_call, empty_table, record_at, place_count}
 use Rattle.events.specs.declared.Event.{Event}
@@ -22,10 +22,9 @@ use Rattle.lamps.specs.declared.notice.Notice.{Notice}
 use Rattle.lamps.specs.declared.reply.Reply.{Reply}
 use Rattle.lamps.specs.declared.reply.Settled.{Settled}
 use Rattle.lamps.specs.declared.reply.ReplyRefusal.{ReplyRefusal}
-use Rattle.lamps.specs.declared.reply.ReplyRefusal.TheVariants.{NoSuchMember, NotPending}
 use Rattle.lamps.specs.Members.{same_indication, awaits, gp_of, is_member, lamp_at}
 use Rattle.lamps.specs.Notice.{starts_stay, is_over}
-use Rattle.lamps.specs.Reply.{settled_of}
+use Rattle.lamps.specs.Reply.{refusal_number, reply_number, settled_of}
 use Rattle.lamps.specs.Served.{start, told_of}
 use Rattle.lamps.specs.Runs.{Input, event, reply, final, sum, events_in, answers, notice_of, request_to, sent_to}
 
@@ -164,11 +163,10 @@ pub record Settles (l : Lamps) (r : Reply) (x : Settled) : Type 0 where
 
 pub record RepliesRight (l : Lamps) (r : Reply) : Type 0 where
   pub done : (x : Settled) → (settled_of l r).answer ≡ Ok x → (is_member r.member ≡ true) × Settles l r x
-  -- 31 and 32, of which there is no other (`refusal_number`)
-  pub no_member : (settled_of l r).answer ≡ Err NoSuchMember → is_member r.member ≡ false
-  pub none_pending : (settled_of l r).answer ≡ Err NotPending → (is_member r.member ≡ true) × ((j : ℕ) → j < place_count → Named r (lamp_at l j) → ⊥)
-  -- a refusal changes nothing
-  pub else : (w : ReplyRefusal) → (settled_of l r).answer ≡ Err w → (settled_of l r).lamps ≡ l
+  pub no_member : reply_number (settled_of l r).answer ≡ 31 → is_member r.member ≡ false
+  pub none_pending : reply_number (settled_of l r).answer ≡ 32 → (is_member r.member ≡ true) × ((j : ℕ) → j < place_count → Named r (lamp_at l j) → ⊥)
+  -- there is no other number, and a refusal changes nothing
+  pub else : (w : ReplyRefusal) → (settled_of l r).answer ≡ Err w → ((refusal_number w ≡ 31) ⊎ (refusal_number w ≡ 32)) × ((settled_of l r).lamps ≡ l)
 
 -- `replies_right`: of any lamps
 abbrev pub AreRepliesRight : Type 0

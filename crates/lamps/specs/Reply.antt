@@ -1,7 +1,7 @@
 -- Responses and expiries (document 02, Q-5; H.450.5, 7.6): "On receipt of a groupIndicationOn Return Result, Return Error or Reject APDU, the served
 -- endpoint shall stop timer T4 and shall return to GP-Idle state.", and the same of Off and T5; "Expiry .. shall be treated the same as if a Reject
 -- APDU had been received."
-use Rattle.std.specs.Prelude.{ℕ, ◌-◌, Bool, false, cond, ◌&&◌, List, Option, None, Some, Ok, Err, ◌==◌, slice_index_or, slice_set, position}
+use Rattle.std.specs.Prelude.{ℕ, ◌-◌, Bool, false, cond, ◌&&◌, List, Option, None, Some, Result, Ok, Err, ◌==◌, slice_index_or, slice_set, position}
 use Rattle.table.specs.Places.{place_at}
 use Rattle.table.specs.Search.{same_call}
 use Rattle.lamps.specs.declared.members.Lamp.{Lamp}
@@ -9,6 +9,7 @@ use Rattle.lamps.specs.declared.members.Lamps.{Lamps}
 use Rattle.lamps.specs.declared.reply.Reply.{Reply}
 use Rattle.lamps.specs.declared.reply.ReplyRefusal.{ReplyRefusal}
 use Rattle.lamps.specs.declared.reply.ReplyRefusal.TheVariants.{NoSuchMember, NotPending}
+use Rattle.lamps.specs.declared.reply.Settled.{Settled}
 use Rattle.lamps.specs.declared.reply.Settlement.{Settlement}
 use Rattle.lamps.specs.Members.{same_indication, timer_of, is_member, lamp_at}
 
@@ -47,6 +48,11 @@ settled_by l r None = refused_reply l NotPending
 abbrev pub refusal_number : ReplyRefusal → ℕ
 refusal_number NoSuchMember = 31
 refusal_number NotPending = 32
+
+-- the number of a reply's answer: 0 where it settles a request
+abbrev pub reply_number : Result Settled ReplyRefusal → ℕ
+reply_number (Ok x) = 0
+reply_number (Err w) = refusal_number w
 
 abbrev pub settled_of : Lamps → Reply → Settlement
 settled_of l r = cond (is_member r.member) (settled_by l r (find_pending r l.places)) (refused_reply l NoSuchMember)

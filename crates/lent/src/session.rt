@@ -126,7 +126,7 @@ pub fn feed(mut s: Session, piece: &[u8], out: &mut [u8]) -> Result<Fed, NoRoom>
 
 // Answers a last line that lacks its feed, and gives the count of octets written. It cannot fail: where the buffer has less than `ANSWER_ROOM` octets,
 // nothing is done, and 0 comes back.
-pub fn finish(mut s: Session, out: &mut [u8]) -> usize
+pub fn finish(s: Session, out: &mut [u8]) -> usize
     ensures { (result ≡ finished_count s out.old) × (out.new ≡ finished_out s out.old) }
 {
     if out.len() < lines::ANSWER_ROOM {
@@ -136,5 +136,7 @@ pub fn finish(mut s: Session, out: &mut [u8]) -> usize
         return 0;
     }
     let sound = sound::places_sound(&s.image);
+    // only now, since a session is two kilobytes, and a parameter that is `mut` is copied before anything is looked at
+    let mut s = s;
     s.end_line(sound, out, 0)
 }

@@ -89,7 +89,7 @@ pub event_read_range : (s : List ℕ) → IfOk (read_line s) EventInRange
 unfolding read_line reading
 event_read_range s = event_taken (reading s) (read_ranged longest_event event_fields s)
 
-event_or_zeros_range : (r : Result Event BadLine) → IfOk r EventInRange → EventInRange (event_or_zeros r)
+pub event_or_zeros_range : (r : Result Event BadLine) → IfOk r EventInRange → EventInRange (event_or_zeros r)
 event_or_zeros_range (Ok e) h = h
 event_or_zeros_range (Err b) h = event_of_lem _ (no_fields event_fields)
 

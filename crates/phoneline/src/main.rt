@@ -12,14 +12,11 @@
 // the table's error numbers.
 #![tactic(auto)]
 
-use clauses::{
-    Answer, Decision, ErrorValue, Failure, Message, Report, Step, Timer, parked, parking,
-};
+use clauses::{Decision, ErrorValue, Failure, Message, Report, Step, Timer, parked, parking};
 use fields::{Fault, Kind};
-use input::INPUT_OCTETS;
-use std::fmt::Display;
+use input::{INPUT_OCTETS, ROOM_OCTETS};
+use std::io;
 use std::io::Read;
-use std::{fmt, io};
 
 const FIELDS: [Kind; 4] = [
     Kind::Number(255),
@@ -30,6 +27,9 @@ const FIELDS: [Kind; 4] = [
 
 // The most octets that these fields can make.
 const LONGEST: u8 = 17;
+
+// No printed line is longer.
+const LINE_OCTETS: usize = 256;
 
 // The error value of the tables.
 const SAMPLE: ErrorValue = ErrorValue(777);
@@ -102,7 +102,7 @@ trait Phone: Copy {
 
     fn step_at(self, event: Self::Event) -> Step<Self>;
 
-    fn name(self) -> &'static str;
+    fn name(self) -> Column;
 }
 
 impl TryFrom<LineFields> for parking::Event {
@@ -136,10 +136,10 @@ impl Phone for parking::State {
         phones::parking::step_at(self, event)
     }
 
-    fn name(self) -> &'static str {
+    fn name(self) -> Column {
         match self {
-            parking::State::CpIdle => "CP-Idle",
-            parking::State::CpRequested => "CP-Requested",
+            parking::State::CpIdle => Column::of("\tCP-Idle"),
+            parking::State::CpRequested => Column::of("\tCP-Requested"),
         }
     }
 }
@@ -187,84 +187,165 @@ impl Phone for parked::State {
         phones::parked::step_at(self, event)
     }
 
-    fn name(self) -> &'static str {
+    fn name(self) -> Column {
         match self {
-            parked::State::CpIdle => "CP-Idle",
-            parked::State::CpSetupRequ => "CP-SetupRequ",
-            parked::State::CpickupSetupInit => "CpickupSetupInit",
+            parked::State::CpIdle => Column::of("\tCP-Idle"),
+            parked::State::CpSetupRequ => Column::of("\tCP-SetupRequ"),
+            parked::State::CpickupSetupInit => Column::of("\tCpickupSetupInit"),
         }
     }
 }
 
-// A column of what is printed: a dash where there is nothing. Each type that it holds is of another crate, so that Display is written for the column.
+// A column of what is printed, with the tab before it: a text, and a number after that where there is one.
 #[derive(Clone, Copy)]
-struct Column<T>(Option<T>);
-
-impl Display for Column<Message> {
-    fn fmt<W: fmt::Write>(&self, f: &mut fmt::Formatter<W>) -> fmt::Result {
-        let Some(message) = self.0 else {
-            return f.write_str("-");
-        };
-        match message {
-            Message::RequestInvoke => f.write_str("FACILITY cpRequest Invoke"),
-            Message::RequestResult => f.write_str("RELEASE COMPLETE cpRequest Return Result"),
-            Message::RequestError(x) => write!(f, "FACILITY cpRequest Return Error {}", x.0),
-            Message::SetupInvoke => f.write_str("SETUP cpSetup Invoke"),
-            Message::PickupResult => f.write_str("FACILITY pickup Return Result"),
-            Message::PickupError(x) => write!(f, "FACILITY pickup Return Error {}", x.0),
-            Message::PickupErrorInRelease(x) => {
-                write!(f, "RELEASE COMPLETE pickup Return Error {}", x.0)
-            }
-            Message::ExecuteInvoke => f.write_str("SETUP pickExe Invoke"),
-            Message::ReleaseHeld => f.write_str("RELEASE COMPLETE held call"),
-            Message::ReleasePicker => f.write_str("RELEASE COMPLETE picker's call"),
-        }
-    }
+struct Column {
+    text: &'static str,
+    number: Option<u16>,
 }
 
-impl Display for Column<Report> {
-    fn fmt<W: fmt::Write>(&self, f: &mut fmt::Formatter<W>) -> fmt::Result {
-        match self.0 {
-            None => f.write_str("-"),
-            Some(Report::Rejected) => f.write_str("rejected"),
-            Some(Report::Succeeded) => f.write_str("success"),
-            Some(Report::Failed(x)) => write!(f, "error {}", x.0),
-        }
-    }
-}
-
-impl Display for Column<Timer> {
-    fn fmt<W: fmt::Write>(&self, f: &mut fmt::Formatter<W>) -> fmt::Result {
-        match self.0 {
-            None => f.write_str("-"),
-            Some(timer) => write!(f, "T{}", u8::from(timer)),
-        }
-    }
-}
-
-impl Display for Column<u16> {
-    fn fmt<W: fmt::Write>(&self, f: &mut fmt::Formatter<W>) -> fmt::Result {
-        match self.0 {
-            None => f.write_str("-"),
-            Some(n) => write!(f, "{n}"),
-        }
-    }
-}
-
-fn print_step<P: Phone>(rt: &impl Print, step: Step<P>) -> io::Result<()> {
-    let (number, answer) = match step.answer {
-        Ok(answer) => (0, answer),
-        Err(refused) => (u8::from(refused), Answer::default()),
+impl Column {
+    const NOTHING: Column = Column {
+        text: "\t-",
+        number: None,
     };
-    println!(rt;
-        "{number}\t{}\t{}\t{}\t{}\t{}\t{}",
-        step.state.name(),
-        Column(answer.first),
-        Column(answer.second),
-        Column(answer.report),
-        Column(answer.started),
-        Column(answer.stopped),
-    )
+
+    fn of(text: &'static str) -> Column {
+        Column { text, number: None }
+    }
+
+    fn with(text: &'static str, number: u16) -> Column {
+        Column {
+            text,
+            number: Some(number),
+        }
+    }
+}
+
+impl From<Option<Message>> for Column {
+    fn from(message: Option<Message>) -> Column {
+        match message {
+            None => Column::NOTHING,
+            Some(Message::RequestInvoke) => Column::of("\tFACILITY cpRequest Invoke"),
+            Some(Message::RequestResult) => {
+                Column::of("\tRELEASE COMPLETE cpRequest Return Result")
+            }
+            Some(Message::RequestError(x)) => {
+                Column::with("\tFACILITY cpRequest Return Error ", x.0)
+            }
+            Some(Message::SetupInvoke) => Column::of("\tSETUP cpSetup Invoke"),
+            Some(Message::PickupResult) => Column::of("\tFACILITY pickup Return Result"),
+            Some(Message::PickupError(x)) => Column::with("\tFACILITY pickup Return Error ", x.0),
+            Some(Message::PickupErrorInRelease(x)) => {
+                Column::with("\tRELEASE COMPLETE pickup Return Error ", x.0)
+            }
+            Some(Message::ExecuteInvoke) => Column::of("\tSETUP pickExe Invoke"),
+            Some(Message::ReleaseHeld) => Column::of("\tRELEASE COMPLETE held call"),
+            Some(Message::ReleasePicker) => Column::of("\tRELEASE COMPLETE picker's call"),
+        }
+    }
+}
+
+impl From<Option<Report>> for Column {
+    fn from(report: Option<Report>) -> Column {
+        match report {
+            None => Column::NOTHING,
+            Some(Report::Rejected) => Column::of("\trejected"),
+            Some(Report::Succeeded) => Column::of("\tsuccess"),
+            Some(Report::Failed(x)) => Column::with("\terror ", x.0),
+        }
+    }
+}
+
+impl From<Option<Timer>> for Column {
+    fn from(timer: Option<Timer>) -> Column {
+        match timer {
+            None => Column::NOTHING,
+            Some(timer) => Column::with("\tT", u16::from(u8::from(timer))),
+        }
+    }
+}
+
+impl From<Option<u16>> for Column {
+    fn from(number: Option<u16>) -> Column {
+        match number {
+            None => Column::NOTHING,
+            Some(n) => Column::with("\t", n),
+        }
+    }
+}
+
+// The columns of an answer where there is none.
+const NO_ANSWER: &str = "\t-\t-\t-\t-\t-";
+
+// Where lines are printed. A line is put together in an array, and goes out whole, by one call. By Display and a `BufWriter` a line of the tables took
+// three times the instructions.
+#[derive(Drop)]
+struct Page<'a, R> {
+    rt: &'a R,
+    line: [u8; LINE_OCTETS],
+    len: usize,
+}
+
+impl<R: Print> Page<'_, R> {
+    fn put_octet(&mut self, octet: u8) {
+        if let Some(room) = self.line.get_mut(self.len) {
+            *room = octet;
+            self.len += 1;
+        }
+    }
+
+    fn put(&mut self, text: &str) {
+        let text = text.as_bytes();
+        let room = self.line.get_mut(self.len..);
+        if let Some(room) = room.and_then(|room| room.get_mut(..text.len())) {
+            room.copy_from_slice(text);
+            self.len += text.len();
+        }
+    }
+
+    // In decimal, without leading zeros: the last digit stands after those of a tenth of the number.
+    fn put_number(&mut self, n: u16) {
+        if 9 < n {
+            self.put_number(n / 10);
+        }
+        self.put_octet(b'0' + (n % 10) as u8);
+    }
+
+    fn put_column(&mut self, column: Column) {
+        self.put(column.text);
+        if let Some(n) = column.number {
+            self.put_number(n);
+        }
+    }
+
+    fn end_line(&mut self) -> io::Result<()> {
+        self.put_octet(b'\n');
+        let len = self.len.min(LINE_OCTETS);
+        self.len = 0;
+        self.rt.write_all(&self.line[..len])
+    }
+
+    // What a step came to, behind what stands before it on its line.
+    fn print_step<P: Phone>(&mut self, step: Step<P>) -> io::Result<()> {
+        let name = step.state.name();
+        match step.answer {
+            Ok(answer) => {
+                self.put_number(0);
+                self.put_column(name);
+                self.put_column(Column::from(answer.first));
+                self.put_column(Column::from(answer.second));
+                self.put_column(Column::from(answer.report));
+                self.put_column(Column::from(answer.started));
+                self.put_column(Column::from(answer.stopped));
+            }
+            Err(refused) => {
+                self.put_number(u16::from(u8::from(refused)));
+                self.put_column(name);
+                self.put(NO_ANSWER);
+            }
+        }
+        self.end_line()
+    }
 }
 
 // What a line has a phone take.
@@ -289,14 +370,23 @@ fn read_line(line: &[u8]) -> Result<Said, BadLine> {
 }
 
 // The phone takes an event, and what it does is printed.
-fn take_event<P: Phone>(rt: &impl Print, phone: &mut P, event: P::Event) -> io::Result<()> {
+fn take_event<P: Phone>(
+    page: &mut Page<'_, impl Print>,
+    phone: &mut P,
+    event: P::Event,
+) -> io::Result<()> {
     let step = phone.step_at(event);
     *phone = step.state;
-    print_step(rt, step)
+    page.print_step(step)
 }
 
 // The row of an event in a state, if the phone has the event.
-fn print_row<P: Phone>(rt: &impl Print, state: P, number: u16, accepted: u16) -> io::Result<()> {
+fn print_row<P: Phone>(
+    page: &mut Page<'_, impl Print>,
+    state: P,
+    number: u16,
+    accepted: u16,
+) -> io::Result<()> {
     let said = LineFields {
         event: number,
         accepted,
@@ -310,41 +400,41 @@ fn print_row<P: Phone>(rt: &impl Print, state: P, number: u16, accepted: u16) ->
     } else {
         None
     };
-    print!(rt;
-        "{}\t{}\t{number}\t{}\t",
-        P::MACHINE,
-        state.name(),
-        Column(decided)
-    )?;
-    print_step(rt, state.step_at(event))
+    page.put(P::MACHINE);
+    page.put_column(state.name());
+    page.put_column(Column::from(Some(number)));
+    page.put_column(Column::from(decided));
+    page.put("\t");
+    page.print_step(state.step_at(event))
 }
 
 // The rows of a state: a request has two.
-fn print_state<P: Phone>(rt: &impl Print, state: P) -> io::Result<()> {
+fn print_state<P: Phone>(page: &mut Page<'_, impl Print>, state: P) -> io::Result<()> {
     for event in 1..=P::EVENTS {
-        print_row(rt, state, event, 1)?;
+        print_row(page, state, event, 1)?;
         if P::is_request(event) {
-            print_row(rt, state, event, 0)?;
+            print_row(page, state, event, 0)?;
         }
     }
     Ok(())
 }
 
-fn print_tables(rt: &impl Print) -> io::Result<()> {
-    println!(rt;
-        "machine\tstate\tevent\taccepted\tnumber\tstate after\tmessage\tsecond message\ttold\tstarted\tstopped"
-    )?;
-    print_state(rt, parking::State::CpIdle)?;
-    print_state(rt, parking::State::CpRequested)?;
-    print_state(rt, parked::State::CpIdle)?;
-    print_state(rt, parked::State::CpSetupRequ)?;
-    print_state(rt, parked::State::CpickupSetupInit)?;
+fn print_tables(page: &mut Page<'_, impl Print>) -> io::Result<()> {
+    page.put(
+        "machine\tstate\tevent\taccepted\tnumber\tstate after\tmessage\tsecond message\ttold\tstarted\tstopped",
+    );
+    page.end_line()?;
+    print_state(page, parking::State::CpIdle)?;
+    print_state(page, parking::State::CpRequested)?;
+    print_state(page, parked::State::CpIdle)?;
+    print_state(page, parked::State::CpSetupRequ)?;
+    print_state(page, parked::State::CpickupSetupInit)?;
     // the wire's value of an error number of the table's answers
     for number in 0..=3 {
-        println!(rt;
-            "error\t{number}\t{}",
-            Column(clauses::wire_error(number).map(|x| x.0))
-        )?;
+        page.put("error");
+        page.put_column(Column::from(Some(u16::from(number))));
+        page.put_column(Column::from(clauses::wire_error(number).map(|x| x.0)));
+        page.end_line()?;
     }
     Ok(())
 }
@@ -362,25 +452,35 @@ impl Phones {
         parked: parked::State::CpIdle,
     };
 
-    fn take_line(&mut self, rt: &impl Print, line: &[u8]) -> io::Result<()> {
+    fn take_line(&mut self, page: &mut Page<'_, impl Print>, line: &[u8]) -> io::Result<()> {
         if line == b"?".as_slice() {
-            return print_tables(rt);
+            return print_tables(page);
         }
         match read_line(line) {
-            Ok(Said::Parking(event)) => take_event(rt, &mut self.parking, event),
-            Ok(Said::Parked(event)) => take_event(rt, &mut self.parked, event),
-            Err(bad) => println!(rt; "{}\t-\t-\t-\t-\t-\t-", u8::from(bad)),
+            Ok(Said::Parking(event)) => take_event(page, &mut self.parking, event),
+            Ok(Said::Parked(event)) => take_event(page, &mut self.parked, event),
+            Err(bad) => {
+                page.put_number(u16::from(u8::from(bad)));
+                page.put_column(Column::NOTHING);
+                page.put(NO_ANSWER);
+                page.end_line()
+            }
         }
     }
 }
 
 fn main(rt: HostRuntime) -> io::Result<()> {
     // two calls of std: a function for them would give back both the text and the error, and be no plainer
-    let mut text = Vec::new(rt.alloc());
+    let mut text = Vec::with_capacity(rt.alloc(), ROOM_OCTETS)?;
     let end = rt.reader().take(INPUT_OCTETS).read_to_end(&mut text);
+    let mut page = Page {
+        rt: &rt,
+        line: [0; LINE_OCTETS],
+        len: 0,
+    };
     let mut phones = Phones::IDLE;
     for line in input::each_line(&text) {
-        phones.take_line(&rt, line)?;
+        phones.take_line(&mut page, line)?;
     }
     end?;
     Ok(())
