@@ -11,9 +11,8 @@ use std::marker::Model;
 // The most that a program reads of standard input; the rest is left.
 pub const INPUT_OCTETS: u64 = 1048576;
 
-// Room for that and one octet more: std's `read_to_end` asks for room before it finds that nothing is left to read, and with this never grows what it
-// reads into.
-pub const ROOM_OCTETS: usize = INPUT_OCTETS as usize + 1;
+// The room that takes it in: an array, so that what is read makes no program ask for memory.
+pub const ROOM_OCTETS: usize = INPUT_OCTETS as usize;
 
 // The lines of a text that are still to come.
 #[derive(Drop)]

@@ -16,7 +16,7 @@ use lamps::members::{Gp, Indication, Lamps, Timer};
 use lamps::notice::Notice;
 use lamps::reply::{Reply, Settlement};
 use lamps::{Endpoint, members, reply};
-use std::io::{BufWriter, Read, Write};
+use std::io::{ErrorKind, Read, Write};
 use std::{fmt, io};
 
 // What is printed is collected in a block, which goes out when the next text does not fit.
@@ -73,20 +73,82 @@ impl fmt::Display for State {
     }
 }
 
-// The endpoint, and where it is written what came of a line.
+// What prints. It is no `BufWriter`: that is on the heap, and after a failed write it writes what it holds once more when it is dropped.
 #[derive(Drop)]
-struct Session<W: Write + Drop> {
-    endpoint: Endpoint,
-    out: W,
+struct Block<'a, R> {
+    rt: &'a R,
+    octets: [u8; BLOCK_OCTETS],
+    len: usize,
 }
 
-impl<W: Write + Drop> Session<W> {
-    fn put_answer(&mut self, a: Answer) -> io::Result<()> {
-        let mut line = [0u8; lines::ANSWER_ROOM];
-        let written = lines::write_answer(a, &mut line);
-        self.out.write_all(&line[..written])
+impl<R: Print> Block<'_, R> {
+    fn has_room(&self, octets: usize) -> bool {
+        octets <= BLOCK_OCTETS.saturating_sub(self.len)
     }
 
+    // An answer is written straight into the block, and never in two parts.
+    fn put_answer(&mut self, a: Answer) -> io::Result<()> {
+        if !self.has_room(lines::ANSWER_ROOM) {
+            self.flush()?;
+        }
+        if let Some(free) = self.octets.get_mut(self.len..) {
+            let written = lines::write_answer(a, free);
+            self.len = self.len.saturating_add(written);
+        }
+        Ok(())
+    }
+
+    fn put_octet(&mut self, octet: u8) -> io::Result<()> {
+        if !self.has_room(1) {
+            self.flush()?;
+        }
+        if let Some(free) = self.octets.get_mut(self.len) {
+            *free = octet;
+            self.len += 1;
+        }
+        Ok(())
+    }
+}
+
+impl<R: Print> Write for Block<'_, R> {
+    // A text that does not fit fills the block first, so that each but the last goes out full, or short of an answer.
+    fn write(&mut self, text: &[u8]) -> io::Result<usize> {
+        let free = self.octets.get_mut(self.len..);
+        if let Some(room) = free.and_then(|free| free.get_mut(..text.len())) {
+            room.copy_from_slice(text);
+            self.len = self.len.saturating_add(text.len());
+            return Ok(text.len());
+        }
+        for octet in text {
+            self.put_octet(*octet)?;
+        }
+        Ok(text.len())
+    }
+
+    // What is written, or could not be, is let go.
+    fn flush(&mut self) -> io::Result<()> {
+        let len = self.len;
+        self.len = 0;
+        match self.octets.get(..len) {
+            Some(block) => self.rt.write_all(block),
+            None => Ok(()),
+        }
+    }
+
+    fn write_all(&mut self, text: &[u8]) -> io::Result<()> {
+        self.write(text)?;
+        Ok(())
+    }
+}
+
+// The endpoint, and where it is written what came of a line.
+#[derive(Drop)]
+struct Session<'a, R> {
+    endpoint: Endpoint,
+    out: Block<'a, R>,
+}
+
+impl<R: Print> Session<'_, R> {
     fn put_settlement(&mut self, x: Settlement) -> io::Result<()> {
         match x.answer {
             Ok(a) => {
@@ -100,11 +162,13 @@ impl<W: Write + Drop> Session<W> {
     fn take_event(&mut self, line: &[u8]) -> io::Result<()> {
         let e = match lines::read_event(line) {
             Ok(e) => e,
-            Err(w) => return self.put_answer(answers::only_number(u8::from(w))),
+            Err(w) => {
+                return self.out.put_answer(answers::only_number(u8::from(w)));
+            }
         };
         let told = lamps::tell(self.endpoint, e);
         self.endpoint = told.endpoint;
-        self.put_answer(told.answer)?;
+        self.out.put_answer(told.answer)?;
         match told.notice {
             Some(x) => writeln!(self.out, "{}", Request(x)),
             None => Ok(()),
@@ -146,27 +210,30 @@ impl<W: Write + Drop> Session<W> {
             _ => self.take_event(line),
         }
     }
-
-    fn take_text(&mut self, text: &[u8]) -> io::Result<()> {
-        for line in input::each_line(text) {
-            self.take_line(line)?;
-        }
-        self.out.flush()
-    }
 }
 
 fn main(rt: HostRuntime) -> io::Result<()> {
-    // two calls of std: a function for them would give back both the text and the error, and be no plainer
-    let mut text = Vec::with_capacity(rt.alloc(), ROOM_OCTETS)?;
-    let end = rt.reader().take(INPUT_OCTETS).read_to_end(&mut text);
+    // calls of std: a function for them would give back both the text and the error, and be no plainer
+    let mut room = [0u8; ROOM_OCTETS];
+    let mut input = rt.reader().take(INPUT_OCTETS);
+    let end = input.read_exact(room.as_mut_slice());
+    let read = INPUT_OCTETS.saturating_sub(input.limit());
+    let text = room.get(..read as usize).unwrap_or_default();
     let mut session = Session {
         endpoint: Endpoint::empty(),
-        out: BufWriter::with_capacity(rt.alloc(), BLOCK_OCTETS, io::writer(&rt))?,
+        out: Block {
+            rt: &rt,
+            octets: [0; BLOCK_OCTETS],
+            len: 0,
+        },
     };
-    let done = session.take_text(&text);
-    // a failed write is not tried again: what is left of the block goes, where dropping the writer would write it
-    let (_, _) = session.out.into_parts();
-    done?;
-    end?;
-    Ok(())
+    for line in input::each_line(text) {
+        session.take_line(line)?;
+    }
+    session.out.flush()?;
+    // an input that ends before the room is full is no failure
+    match end {
+        Err(e) if e.kind() != ErrorKind::UnexpectedEof => Err(e),
+        _ => Ok(()),
+    }
 }

@@ -16,7 +16,7 @@ use clauses::{Decision, ErrorValue, Failure, Message, Report, Step, Timer, parke
 use fields::{Fault, Kind};
 use input::{INPUT_OCTETS, ROOM_OCTETS};
 use std::io;
-use std::io::Read;
+use std::io::{ErrorKind, Read};
 
 const FIELDS: [Kind; 4] = [
     Kind::Number(255),
@@ -470,18 +470,24 @@ impl Phones {
 }
 
 fn main(rt: HostRuntime) -> io::Result<()> {
-    // two calls of std: a function for them would give back both the text and the error, and be no plainer
-    let mut text = Vec::with_capacity(rt.alloc(), ROOM_OCTETS)?;
-    let end = rt.reader().take(INPUT_OCTETS).read_to_end(&mut text);
+    // calls of std: a function for them would give back both the text and the error, and be no plainer
+    let mut room = [0u8; ROOM_OCTETS];
+    let mut input = rt.reader().take(INPUT_OCTETS);
+    let end = input.read_exact(room.as_mut_slice());
+    let read = INPUT_OCTETS.saturating_sub(input.limit());
+    let text = room.get(..read as usize).unwrap_or_default();
     let mut page = Page {
         rt: &rt,
         line: [0; LINE_OCTETS],
         len: 0,
     };
     let mut phones = Phones::IDLE;
-    for line in input::each_line(&text) {
+    for line in input::each_line(text) {
         phones.take_line(&mut page, line)?;
     }
-    end?;
-    Ok(())
+    // an input that ends before the room is full is no failure
+    match end {
+        Err(e) if e.kind() != ErrorKind::UnexpectedEof => Err(e),
+        _ => Ok(()),
+    }
 }
