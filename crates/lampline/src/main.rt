@@ -11,12 +11,12 @@
 #![tactic(auto)]
 
 use events::{Answer, Event, answers};
-use input::{INPUT_OCTETS, ROOM_OCTETS};
+use input::{INPUT_OCTETS, ROOM_OCTETS, UpToFailure};
 use lamps::members::{Gp, Indication, Lamps, Timer};
 use lamps::notice::Notice;
 use lamps::reply::{Reply, Settlement};
 use lamps::{Endpoint, members, reply};
-use std::io::{ErrorKind, Read, Write};
+use std::io::{Read, Write};
 use std::{fmt, io};
 
 // What is printed is collected in a block, which goes out when the next text does not fit.
@@ -215,8 +215,13 @@ impl<R: Print> Session<'_, R> {
 fn main(rt: HostRuntime) -> io::Result<()> {
     // calls of std: a function for them would give back both the text and the error, and be no plainer
     let mut room = [0u8; ROOM_OCTETS];
-    let mut input = rt.reader().take(INPUT_OCTETS);
-    let end = input.read_exact(room.as_mut_slice());
+    let mut input = UpToFailure {
+        input: rt.reader(),
+        failure: None,
+    }
+    .take(INPUT_OCTETS);
+    // an input that ends before the room is full is no failure
+    let _is_full = input.read_exact(room.as_mut_slice()).is_ok();
     let read = INPUT_OCTETS.saturating_sub(input.limit());
     let text = room.get(..read as usize).unwrap_or_default();
     let mut session = Session {
@@ -231,9 +236,8 @@ fn main(rt: HostRuntime) -> io::Result<()> {
         session.take_line(line)?;
     }
     session.out.flush()?;
-    // an input that ends before the room is full is no failure
-    match end {
-        Err(e) if e.kind() != ErrorKind::UnexpectedEof => Err(e),
-        _ => Ok(()),
+    match input.into_inner().failure {
+        Some(e) => Err(e),
+        None => Ok(()),
     }
 }

@@ -14,9 +14,9 @@
 
 use clauses::{Decision, ErrorValue, Failure, Message, Report, Step, Timer, parked, parking};
 use fields::{Fault, Kind};
-use input::{INPUT_OCTETS, ROOM_OCTETS};
+use input::{INPUT_OCTETS, ROOM_OCTETS, UpToFailure};
 use std::io;
-use std::io::{ErrorKind, Read};
+use std::io::Read;
 
 const FIELDS: [Kind; 4] = [
     Kind::Number(255),
@@ -472,8 +472,13 @@ impl Phones {
 fn main(rt: HostRuntime) -> io::Result<()> {
     // calls of std: a function for them would give back both the text and the error, and be no plainer
     let mut room = [0u8; ROOM_OCTETS];
-    let mut input = rt.reader().take(INPUT_OCTETS);
-    let end = input.read_exact(room.as_mut_slice());
+    let mut input = UpToFailure {
+        input: rt.reader(),
+        failure: None,
+    }
+    .take(INPUT_OCTETS);
+    // an input that ends before the room is full is no failure
+    let _is_full = input.read_exact(room.as_mut_slice()).is_ok();
     let read = INPUT_OCTETS.saturating_sub(input.limit());
     let text = room.get(..read as usize).unwrap_or_default();
     let mut page = Page {
@@ -485,9 +490,8 @@ fn main(rt: HostRuntime) -> io::Result<()> {
     for line in input::each_line(text) {
         phones.take_line(&mut page, line)?;
     }
-    // an input that ends before the room is full is no failure
-    match end {
-        Err(e) if e.kind() != ErrorKind::UnexpectedEof => Err(e),
-        _ => Ok(()),
+    match input.into_inner().failure {
+        Some(e) => Err(e),
+        None => Ok(()),
     }
 }
