@@ -31,9 +31,9 @@ number_of_done : (a : Result Answer NoStep) → is_ok a ≡ true → answer_numb
 number_of_done (Ok a) good = refl
 number_of_done (Err e) good = never good
 
-done_is_0 : (a : Result Answer NoStep) → is_ok a ≡ eqb (answer_number a) 0
-done_is_0 (Ok a) = refl
-done_is_0 (Err e) = refl
+numbered : (a : Result Answer NoStep) → answer_number a ≡ cond (is_ok a) 0 33
+numbered (Ok a) = refl
+numbered (Err e) = refl
 
 -- stopped, and then started
 stop_start : (x y : Bool) → cond x true (cond y false y) ≡ x
@@ -107,7 +107,7 @@ module _ (p : Phone) where
     pub promises : Promises p
     promises = record {
       refused_keeps = refused_keeps;
-      done_is_0 = λ s e. done_is_0 (answer s e);
+      numbered = λ s e. numbered (answer s e);
       runs_where_named = runs_where_named (timed p) laws;
       expiry_where_runs = expiry_where_runs (timed p) laws;
       expiry_stops = expiry_stops (timed p) laws;

@@ -1,6 +1,6 @@
 -- What is promised of each phone, said once over any: a refusal changes nothing, a timer runs exactly in the state that names it (crate `timers`), and
 -- an expiry leads back to idle.
-use Rattle.std.specs.Prelude.{◌≡◌, Bool, true, false, List, [], ◌∷◌, eqb, Option, Some, None, Result, Ok, Err, is_ok}
+use Rattle.std.specs.Prelude.{◌≡◌, Bool, true, false, cond, List, [], ◌∷◌, eqb, Option, Some, None, Result, Ok, Err, is_ok}
 use Rattle.timers.specs.Timers.{TimedMachine, RunsWhereNamed, ExpiryWhereRuns, ExpiryStops}
 use Rattle.clauses.specs.declared.Timer.{Timer}
 use Rattle.clauses.specs.declared.Answer.{Answer}
@@ -57,8 +57,8 @@ timed p = record {
 pub record Promises (p : Phone) : Type 0 where
   -- an event that is not done is answered by 33, and the state stays; a refusal has nothing to send, start, stop or tell
   pub refused_keeps : (s : p.State) (e : p.Event) → (answer_number (p.answer s e) ≡ 0 → ⊥) → (p.next s e ≡ s) × (p.answer s e ≡ Err refusal)
-  -- the number of a refusal is not that of an event that is done
-  pub done_is_0 : (s : p.State) (e : p.Event) → is_ok (p.answer s e) ≡ eqb (answer_number (p.answer s e)) 0
+  -- 0 is the number where the event is done, and 33 where it is not
+  pub numbered : (s : p.State) (e : p.Event) → answer_number (p.answer s e) ≡ cond (is_ok (p.answer s e)) 0 33
   -- Q-7: "a timer runs exactly in the state that names it"
   pub runs_where_named : RunsWhereNamed (timed p)
   -- an expiry is accepted exactly where its timer runs, and then stops it

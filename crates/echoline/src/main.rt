@@ -2,7 +2,7 @@
 // an answer as that answer's line, and of any other line the refusal is printed that it has as an event line.
 #![tactic(auto)]
 
-use input::{INPUT_OCTETS, ROOM_OCTETS, UpToFailure};
+use input::{INPUT_OCTETS, UpToFailure};
 use std::io;
 use std::io::Read;
 
@@ -45,21 +45,20 @@ fn echo(rt: &impl Print, line: &[u8]) -> io::Result<()> {
 }
 
 fn main(rt: HostRuntime) -> io::Result<()> {
-    // calls of std: a function for them would give back both the text and the error, and be no plainer
-    let mut room = [0u8; ROOM_OCTETS];
+    // a function for this would give back both the text and the error, and be no plainer
+    let mut room = [0u8; INPUT_OCTETS];
     let mut input = UpToFailure {
         input: rt.reader(),
+        came: 0,
         failure: None,
-    }
-    .take(INPUT_OCTETS);
+    };
     // an input that ends before the room is full is no failure
     let _is_full = input.read_exact(room.as_mut_slice()).is_ok();
-    let read = INPUT_OCTETS.saturating_sub(input.limit());
-    let text = room.get(..read as usize).unwrap_or_default();
+    let text = room.get(..input.came).unwrap_or_default();
     for line in input::each_line(text) {
         echo(&rt, line)?;
     }
-    match input.into_inner().failure {
+    match input.failure {
         Some(e) => Err(e),
         None => Ok(()),
     }

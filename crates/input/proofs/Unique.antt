@@ -14,7 +14,7 @@ pub each_line_decided : Decides each-line.Post
 each_line_decided κ a x y d e p q = p ∙ sym q
 
 -- the octets of the line, if one is given
-abbrev pub line_given : Option (Bor (List ℕ)) → Option (List ℕ)
+abbrev line_given : Option (Bor (List ℕ)) → Option (List ℕ)
 line_given None = None
 line_given (Some line) = Some line.now
 
@@ -36,7 +36,7 @@ pub next_decided : DecidesSeen next.Post (λ κ x. line_given x)
 next_decided κ a x y d e p q = (by_first _ _ _ x y p.0 q.0).0
 
 -- what is left in lent memory is the same
-abbrev pub DecidesLeft : {K : Type 0} {A X E : K → Type 0} {M : Type 0} → ((κ : K) → A κ → X κ → E κ → Type 0) → ((κ : K) → E κ → M) → Type 0
+abbrev DecidesLeft : {K : Type 0} {A X E : K → Type 0} {M : Type 0} → ((κ : K) → A κ → X κ → E κ → Type 0) → ((κ : K) → E κ → M) → Type 0
 DecidesLeft {K} {A} {X} {E} post left = (κ : K) (a : A κ) (x y : X κ) (d e : E κ) → post κ a x d → post κ a y e → left κ d ≡ left κ e
 
 pub next_leaves : DecidesLeft next.Post (λ κ d. d.0.now)

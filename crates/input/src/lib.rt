@@ -11,23 +11,24 @@ use std::io::Read;
 use std::marker::Model;
 
 // The most that a program reads of standard input; the rest is left.
-pub const INPUT_OCTETS: u64 = 1048576;
+pub const INPUT_OCTETS: usize = 1048576;
 
-// The room that takes it in: an array, so that what is read makes no program ask for memory.
-pub const ROOM_OCTETS: usize = INPUT_OCTETS as usize;
-
-// An input that ends where a read of it fails, and has the error afterwards. So a read that a signal interrupted is not tried again either, as std does
-// where it gets the error.
+// An input that ends where a read of it fails. It knows afterwards how many octets came, and the error. So a read that a signal interrupted is not tried
+// again either, as std does where it gets the error.
 #[derive(Drop)]
 pub struct UpToFailure<R> {
     pub input: R,
+    pub came: usize,
     pub failure: Option<io::Error>,
 }
 
 impl<R: Read> Read for UpToFailure<R> {
     fn read(&mut self, room: &mut [u8]) -> io::Result<usize> {
         match self.input.read(room) {
-            Ok(count) => Ok(count),
+            Ok(count) => {
+                self.came = self.came.saturating_add(count);
+                Ok(count)
+            }
             Err(e) => {
                 self.failure = Some(e);
                 Ok(0)

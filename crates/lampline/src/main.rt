@@ -11,7 +11,7 @@
 #![tactic(auto)]
 
 use events::{Answer, Event, answers};
-use input::{INPUT_OCTETS, ROOM_OCTETS, UpToFailure};
+use input::{INPUT_OCTETS, UpToFailure};
 use lamps::members::{Gp, Indication, Lamps, Timer};
 use lamps::notice::Notice;
 use lamps::reply::{Reply, Settlement};
@@ -213,17 +213,16 @@ impl<R: Print> Session<'_, R> {
 }
 
 fn main(rt: HostRuntime) -> io::Result<()> {
-    // calls of std: a function for them would give back both the text and the error, and be no plainer
-    let mut room = [0u8; ROOM_OCTETS];
+    // a function for this would give back both the text and the error, and be no plainer
+    let mut room = [0u8; INPUT_OCTETS];
     let mut input = UpToFailure {
         input: rt.reader(),
+        came: 0,
         failure: None,
-    }
-    .take(INPUT_OCTETS);
+    };
     // an input that ends before the room is full is no failure
     let _is_full = input.read_exact(room.as_mut_slice()).is_ok();
-    let read = INPUT_OCTETS.saturating_sub(input.limit());
-    let text = room.get(..read as usize).unwrap_or_default();
+    let text = room.get(..input.came).unwrap_or_default();
     let mut session = Session {
         endpoint: Endpoint::empty(),
         out: Block {
@@ -236,7 +235,7 @@ fn main(rt: HostRuntime) -> io::Result<()> {
         session.take_line(line)?;
     }
     session.out.flush()?;
-    match input.into_inner().failure {
+    match input.failure {
         Some(e) => Err(e),
         None => Ok(()),
     }
